@@ -1,0 +1,5 @@
+pub mod Cells
+pub mod Layers
+pub mod Rows
+pub mod Signs
+pub mod Tallies
