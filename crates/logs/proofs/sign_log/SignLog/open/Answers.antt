@@ -1,0 +1,6 @@
+use borrow.Author.Needs.{needs}
+use Rattle.logs.specs.SignLaws.{signs}
+use Rattle.logs.proofs.sign_log.SignLog.open.Needs as need
+
+pub returns : need.returns
+returns c = search (needs, signs)
