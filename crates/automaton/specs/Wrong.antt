@@ -20,7 +20,7 @@ pub data WrongAt (images : Images) (sheet : Automaton) (at : Option ℕ) (t : Li
   stray : (q : ℕ) → at ≡ Some q → (images .Factor t → ⊥) → WrongAt images sheet at t
   lost : at ≡ None → images .Factor t → WrongAt images sheet at t
   marked : (q : ℕ) → at ≡ Some q → (sheet .marks q ≡ images .marks t → ⊥) → WrongAt images sheet at t
-  prefixed : (q : ℕ) → at ≡ Some q → ((sheet .prefix q ≡ true) ↔ images .Proper t → ⊥) → WrongAt images sheet at t
+  prefixed : (q : ℕ) → at ≡ Some q → (((sheet .prefix q ≡ true) ↔ images .Proper t) → ⊥) → WrongAt images sheet at t
 
 -- a word of one letter or more is wrong for a sheet by the state that it reaches and the text that it is, turned into log order;
 -- the empty word is never wrong

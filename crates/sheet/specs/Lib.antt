@@ -1,0 +1,5 @@
+pub mod Tables
+pub mod States
+pub mod Refusals
+pub mod Files
+pub mod Views
