@@ -26,8 +26,6 @@ mod fits;
 mod lines;
 mod read;
 mod steps;
-#[cfg(test)]
-mod tests;
 
 /// A plan: at most 32 patterns over 1 to 32 letters, with at most 64 steps in all.
 /// The steps are numbered through all patterns, one after the other, and bit g of a set of steps stands for step g.

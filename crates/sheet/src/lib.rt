@@ -7,10 +7,8 @@ ghost use Rattle.sheet.specs.States.{Each, HasMarks, IsWide, IsInside, IsBare}
 mod answers;
 mod building;
 mod reading;
-mod refusals;
+pub mod refusals;
 mod states;
-#[cfg(test)]
-mod tests;
 mod writing;
 
 pub use refusals::GrowthError;

@@ -5,4 +5,8 @@ mod event_logs;
 #[cfg(test)]
 mod layers;
 #[cfg(test)]
+mod plans;
+#[cfg(test)]
+mod sheets;
+#[cfg(test)]
 mod sign_logs;

@@ -1,13 +1,13 @@
 //! Sheets by example: a small one made, written and read, and each refusal at its limit.
-use crate::GrowthError;
-use crate::Sheet;
-use crate::SheetError;
-use crate::SheetRefusal;
-use crate::refusals::GrowthErrorDebug;
-use crate::refusals::GrowthErrorPartialEq;
-use crate::refusals::SheetErrorDebug;
-use crate::refusals::SheetRefusalDebug;
-use crate::refusals::SheetRefusalPartialEq;
+use sheet::GrowthError;
+use sheet::Sheet;
+use sheet::SheetError;
+use sheet::SheetRefusal;
+use sheet::refusals::GrowthErrorDebug;
+use sheet::refusals::GrowthErrorPartialEq;
+use sheet::refusals::SheetErrorDebug;
+use sheet::refusals::SheetRefusalDebug;
+use sheet::refusals::SheetRefusalPartialEq;
 use std::alloc::Global;
 use std::test::*;
 

@@ -1,7 +1,7 @@
 //! Plans that are read, texts that are refused, and the fits of words.
-use crate::Plan;
 use notation::PlanRefusal;
 use notation::PlanRefusalDebug;
+use plan::Plan;
 use std::alloc::AllocError;
 use std::alloc::Global;
 use std::test::*;
@@ -92,17 +92,18 @@ fn plans() -> Result<(), Fail> {
     let plan = Plan::read(32, b"A.[BCB]\n[^A]\nZaf.\n")?;
     check_eq((plan.letters(), plan.patterns()), (32, 3))?;
     check_eq((plan.shortest(), plan.longest()), (1, 4))?;
-    let steps: &[u32] = &[
-        1,
-        0xffff_ffff,
-        6,
-        0xffff_fffe,
-        1 << 25,
-        1 << 26,
-        1 << 31,
-        0xffff_ffff,
+    // the steps that admit A, B, Z, a and f, by the fits of these letters
+    let cases: &[(u8, u64)] = &[
+        (0, 0b1000_0011),
+        (1, 0b1000_1110),
+        (25, 0b1001_1010),
+        (26, 0b1010_1010),
+        (31, 0b1100_1010),
     ];
-    check_eq(&plan.steps[0..8], steps)?;
+    for (letter, steps) in cases {
+        let (closing, inner) = plan.first(*letter);
+        check_eq(closing | inner, *steps)?;
+    }
     let empty = Plan::empty(32)?;
     check_eq((empty.letters(), empty.patterns()), (32, 0))?;
     check_eq((empty.shortest(), empty.longest()), (0, 0))?;
