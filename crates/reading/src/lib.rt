@@ -1,0 +1,14 @@
+//! Readings of a trace: a reading holds a plan and a sheet that has no wrong word for it, and is searched hit by hit.
+//!
+//! [`Reading`] is idle, [`Search`] is begun: `begin` and `close` turn one into the other, so that a hit cannot be asked for before a
+//! begin or after a close.
+mod cell_fault;
+mod hits;
+mod spot;
+mod states;
+
+pub use cell_fault::CellFault;
+pub use hits::Hit;
+pub use hits::Report;
+pub use states::Reading;
+pub use states::Search;
