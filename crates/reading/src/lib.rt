@@ -2,8 +2,8 @@
 //!
 //! [`Reading`] is idle, [`Search`] is begun: `begin` and `close` turn one into the other, so that a hit cannot be asked for before a
 //! begin or after a close.
-mod cell_fault;
-mod hits;
+pub mod cell_fault;
+pub mod hits;
 mod spot;
 mod states;
 
