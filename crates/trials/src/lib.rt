@@ -3,13 +3,9 @@ pub mod blocks;
 #[cfg(test)]
 mod event_logs;
 #[cfg(test)]
-mod judging;
-#[cfg(test)]
 mod layers;
 #[cfg(test)]
 mod plans;
-#[cfg(test)]
-mod readings;
 #[cfg(test)]
 mod sheets;
 #[cfg(test)]
