@@ -19,7 +19,7 @@ use Rattle.automaton.proofs.Tagged.{tagged_right}
 use Rattle.automaton.proofs.Wrong.{letters_turned, no_wrong_right, right_no_wrong}
 use Rattle.exploration.specs.Stage.{Table, Found}
 use Rattle.exploration.specs.Verdicts.{AllFound, More}
-use Rattle.exploration.specs.Drawing.{Drawn, drawn_to, drawing, Leads, ReadOff, DrawingIsRight}
+use Rattle.exploration.specs.Drawing.{Drawn, drawn_to, drawing, Leads, ReadOff, DrawingIsRight, DrawnSheetsHold}
 use Rattle.exploration.proofs.Cover.{to_inj}
 use Rattle.exploration.proofs.Counting.{pigeons}
 use Rattle.exploration.proofs.Drawn.{single, listed, listed_length, all_listed}
@@ -318,8 +318,14 @@ drawing_is_right_lem K plan well =
       single = λ m n left right l r. single K (images_of plan) (fitting plan) ok m n left right l r;
       complete = λ T sheet all off. read_off K (images_of plan) (lawful plan well.nonempty) (fitting plan) ok T sheet all off;
       overflow = λ most t h s. omega (arith, outgrown K (images_of plan) (lawful plan well.nonempty) (fitting plan) ok s.states s.sheet s.drawn most t h, s.few);
-      held = λ states most sheet d l. record { pairs = listed K (images_of plan) (fitting plan) states sheet d states; few = rw (listed_length K (images_of plan) (fitting plan) states sheet d states) l; all = λ w x e. all_listed K (images_of plan) (fitting plan) states sheet d w x e.lettered };
     }
   where
     ok : FittingLawful K (images_of plan) (fitting plan)
     ok = fits plan well K
+
+pub drawn_sheets_hold_lem : DrawnSheetsHold
+drawn_sheets_hold_lem K plan well states most sheet d few = record {
+  pairs = listed K (images_of plan) (fitting plan) states sheet d states;
+  few = rw (listed_length K (images_of plan) (fitting plan) states sheet d states) few;
+  all = λ w x e. all_listed K (images_of plan) (fitting plan) states sheet d w x e.lettered;
+}

@@ -72,8 +72,10 @@ pub record Draws (K : ℕ) (plan : List (List ℕ)) : Type 0 where
   pub complete : (T : Table Node) (sheet : Automaton) → AllFound K (drawing (fitting plan)) T → ReadOff K (fitting plan) T sheet → Drawn K (images_of plan) (fitting plan) T.size sheet
   -- more nodes than there is room for: so many states do not suffice
   pub overflow : (most : ℕ) (t : List ℕ) → More K (drawing (fitting plan)) most t → Suffices most K (images_of plan) (fitting plan) → ⊥
-  -- the drawn sheet shows no more pairs than it has states
-  pub held : (states most : ℕ) (sheet : Automaton) → Drawn K (images_of plan) (fitting plan) states sheet → states ≤ most → HoldsPairs most K plan sheet
 
 abbrev pub DrawingIsRight : Type 0
 DrawingIsRight = (K : ℕ) (plan : List (List ℕ)) → Wellformed plan → Draws K plan
+
+-- a drawn sheet shows no more pairs than it has states
+abbrev pub DrawnSheetsHold : Type 0
+DrawnSheetsHold = (K : ℕ) (plan : List (List ℕ)) → Wellformed plan → (states most : ℕ) (sheet : Automaton) → Drawn K (images_of plan) (fitting plan) states sheet → states ≤ most → HoldsPairs most K plan sheet

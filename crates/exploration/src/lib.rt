@@ -1,7 +1,7 @@
 //! The exploration of all words in word order, and what it tells of a sheet: definitions and theorems.
 //! There is nothing to run: each function stands for a theorem, which its contract names.
 ghost use Rattle.exploration.specs.Cells.{WalksAreSound};
-ghost use Rattle.exploration.specs.Drawing.{DrawingIsRight};
+ghost use Rattle.exploration.specs.Drawing.{DrawingIsRight, DrawnSheetsHold};
 ghost use Rattle.exploration.specs.Explore.{Explores};
 ghost use Rattle.exploration.specs.Examples.{Judgements};
 ghost use Rattle.exploration.specs.Pairs.{VerdictsAreRight};
@@ -19,6 +19,11 @@ pub fn verdicts_are_right()
 /// A plan has one drawn sheet, which is read off an exploration.
 pub fn drawing_is_right()
     ensures { DrawingIsRight }
+{}
+
+/// The drawn sheet shows no more pairs than it has states.
+pub fn drawn_sheets_hold()
+    ensures { DrawnSheetsHold }
 {}
 
 /// The exploration, as a function, ends with a verdict that is right.

@@ -1,6 +1,6 @@
 -- A sheet that is drawn for the plan is accepted.
 use Rattle.std.proofs.Common.{◌≡◌, ℕ, ◌≤◌, List, length, Ok, Err, Result, refl}
-use Rattle.exploration.proofs.Drawing.{drawing_is_right_lem}
+use Rattle.exploration.proofs.Drawing.{drawn_sheets_hold_lem}
 use Rattle.plan.specs.declared.Plan.{Plan}
 use Rattle.plan.specs.Views.{letters_of, patterns_of}
 use Rattle.plan.proofs.Soundness.{sound}
@@ -18,7 +18,7 @@ use Rattle.reading.specs.Admission.{Admitted}
 
 module _ (plan : Plan) (sheet : Sheet) (memory word : List ℕ) (d : DrawnFor plan sheet) (room : HasRoom memory word) (few : length (table_of sheet).states ≤ groups_in memory) where
   holds : PairsHeld plan sheet memory
-  holds = (drawing_is_right_lem (letters_of plan) (patterns_of plan) (sound plan).well).held (length (table_of sheet).states) (groups_in memory) (automaton_of sheet) d.drawn few
+  holds = drawn_sheets_hold_lem (letters_of plan) (patterns_of plan) (sound plan).well (length (table_of sheet).states) (groups_in memory) (automaton_of sheet) d.drawn few
 
   no_refusal : (after : List ℕ) (v : JudgeRefusal) → Answers plan sheet memory word after (Err v) → ⊥
   no_refusal after Letters a = a.0 d.letters

@@ -64,7 +64,7 @@ impl<D> From<Fault<D>> for Fault<Origin<D>> {
 impl<T: Trace> Join<T> {
     // A cell of the first log.
     fn first_cell(&self, i: usize) -> Result<u8, Fault<Origin<T::Damage>>>
-        ensures { result ≡ reanswer First (cell_at (row self.now.first) i) }
+        ensures { result ≡ reanswer First (cell_at (T.Trace.row self.now.first) i) }
     {
         let letter = self.first.cell(i)?;
         Ok(letter)
@@ -72,7 +72,7 @@ impl<T: Trace> Join<T> {
 
     // A cell of the second log. One pair of types has one `From`, which is the first log's, so the fault is rebuilt by hand.
     fn second_cell(&self, i: usize) -> Result<u8, Fault<Origin<T::Damage>>>
-        ensures { result ≡ reanswer Second (cell_at (row self.now.second) i) }
+        ensures { result ≡ reanswer Second (cell_at (T.Trace.row self.now.second) i) }
     {
         match self.second.cell(i) {
             Ok(letter) => Ok(letter),

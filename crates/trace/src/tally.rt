@@ -13,7 +13,7 @@ pub struct Tally {
 
 /// The tally of any trace, of any kind and under any pile of layers.
 pub fn tally_of<T: Trace>(trace: &T) -> Tally
-    ensures { result ≡ tally_of (row trace.now) }
+    ensures { result ≡ tally_of (T.Trace.row trace.now) }
 {
     let mut letters: usize = 0;
     let len = trace.len();
