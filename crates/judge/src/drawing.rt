@@ -1,7 +1,7 @@
 //! Drawing the sheet of a plan.
 ghost use Rattle.std.specs.Prelude.{◌≡◌, ℕ, ◌+◌, ◌*◌, ◌<◌, ◌≤◌, length, IfOk};
 ghost use Rattle.pattern.specs.Fits.{fitting};
-ghost use Rattle.exploration.specs.Drawing.{drawing as drawingMachine, Leads};
+ghost use Rattle.exploration.specs.Drawing.{drawing as drawing_machine, Leads};
 ghost use Rattle.exploration.specs.Links.{node_at, cells as entries};
 ghost use Rattle.plan.specs.Views.{letters_of, patterns_of};
 ghost use Rattle.sheet.specs.Views.{table_of};
@@ -28,7 +28,7 @@ struct Drawing {
 }
 
 impl Machine for Drawing {
-    ghost meaning = { λ m. drawingMachine (fitting (patterns_of m.plan)) };
+    ghost meaning = { λ m. drawing_machine (fitting (patterns_of m.plan)) };
 
     fn start(&self) -> u64 {
         0
@@ -66,10 +66,10 @@ fn states(heap: Global, plan: &Plan, cells: &[u64], size: usize) -> Result<Sheet
 
 /// The entry that a letter leads to from an entry of a complete table, if it leads anywhere.
 fn target(plan: &Plan, cells: &[u64], size: usize, row: usize, letter: u8) -> Option<usize>
-    requires complete { Completes (letters_of plan.now) (drawingMachine (fitting (patterns_of plan.now))) cells.now size }
+    requires complete { Completes (letters_of plan.now) (drawing_machine (fitting (patterns_of plan.now))) cells.now size }
     requires entry { row < size }
     requires spelt { letter < letters_of plan.now }
-    ensures answer { Leads (entries (letters_of plan.now) cells.now size) ((drawingMachine (fitting (patterns_of plan.now))).step (node_at cells.now row) letter) (arrow_to result) }
+    ensures answer { Leads (entries (letters_of plan.now) cells.now size) ((drawing_machine (fitting (patterns_of plan.now))).step (node_at cells.now row) letter) (arrow_to result) }
     ensures inside { Inside size result }
 {
     let drawing = Drawing { plan: *plan };
@@ -84,7 +84,7 @@ fn target(plan: &Plan, cells: &[u64], size: usize, row: usize, letter: u8) -> Op
 /// Sets the arrow of an entry by a letter, if there is one.
 fn point(plan: &Plan, cells: &[u64], size: usize, sheet: &mut Sheet, row: usize, letter: u8)
     requires few { size ≤ 255 }
-    requires complete { Completes (letters_of plan.now) (drawingMachine (fitting (patterns_of plan.now))) cells.now size }
+    requires complete { Completes (letters_of plan.now) (drawing_machine (fitting (patterns_of plan.now))) cells.now size }
     requires entry { row < size }
     requires spelt { letter < letters_of plan.now }
     requires plotted { Plotted plan.now cells.now size row letter (table_of sheet.old) }
@@ -99,7 +99,7 @@ fn point(plan: &Plan, cells: &[u64], size: usize, sheet: &mut Sheet, row: usize,
 /// Sets all arrows.
 fn arrows(plan: &Plan, cells: &[u64], size: usize, sheet: &mut Sheet)
     requires few { size ≤ 255 }
-    requires complete { Completes (letters_of plan.now) (drawingMachine (fitting (patterns_of plan.now))) cells.now size }
+    requires complete { Completes (letters_of plan.now) (drawing_machine (fitting (patterns_of plan.now))) cells.now size }
     requires plotted { Plotted plan.now cells.now size 0 0 (table_of sheet.old) }
     ensures held { Plotted plan.now cells.now size size 0 (table_of sheet.new) }
 {
@@ -113,7 +113,7 @@ fn arrows(plan: &Plan, cells: &[u64], size: usize, sheet: &mut Sheet)
 /// The sheet that is read off a complete table.
 fn read_off(heap: Global, plan: &Plan, cells: &[u64], size: usize) -> Result<Sheet, AllocError>
     requires few { size ≤ 255 }
-    requires complete { Completes (letters_of plan.now) (drawingMachine (fitting (patterns_of plan.now))) cells.now size }
+    requires complete { Completes (letters_of plan.now) (drawing_machine (fitting (patterns_of plan.now))) cells.now size }
     ensures answer { IfOk result (DrawnFor plan.now) }
 {
     let mut sheet = states(heap, plan, cells, size)?;

@@ -2,7 +2,7 @@
 ghost use Rattle.std.specs.Prelude.{◌≡◌, ◌&&◌, ◌==◌};
 ghost use Rattle.std.specs.Bool.{beq};
 ghost use Rattle.pattern.specs.Fits.{fitting};
-ghost use Rattle.automaton.specs.Judging.{judge as judgingMachine, settled};
+ghost use Rattle.automaton.specs.Judging.{judge as judging_machine, settled};
 ghost use Rattle.plan.specs.Views.{patterns_of};
 ghost use Rattle.sheet.specs.Views.{automaton_of};
 ghost use Rattle.judge.specs.Judged.{Judged, Answers};
@@ -62,7 +62,7 @@ fn settle(plan: &Plan, sheet: &Sheet, reached: Option<StateNumber>, fits: (u64, 
 }
 
 impl<'p, 's> Machine for Judging<'p, 's> {
-    ghost meaning = { λ m. judgingMachine (fitting (patterns_of m.plan.now)) (automaton_of m.sheet.now) };
+    ghost meaning = { λ m. judging_machine (fitting (patterns_of m.plan.now)) (automaton_of m.sheet.now) };
 
     fn start(&self) -> u64 {
         START as u64

@@ -2,7 +2,7 @@
 ghost use Rattle.std.specs.Prelude.{◌≡◌};
 ghost use Rattle.pattern.specs.Fits.{fitting};
 ghost use Rattle.automaton.specs.Machines.{Machine as Meaning};
-ghost use Rattle.automaton.specs.Judging.{Node, nowhere, grown as grownFits};
+ghost use Rattle.automaton.specs.Judging.{Node, nowhere, grown as grown_fits};
 ghost use Rattle.plan.specs.Views.{patterns_of};
 ghost use Rattle.judge.specs.Moves.{outcome};
 
@@ -41,7 +41,7 @@ pub(crate) fn is_nowhere(fits: (u64, u64)) -> bool
 
 /// The fits of a word with one letter more. At a node no fits are those of the empty word.
 pub(crate) fn grown(plan: &Plan, fits: (u64, u64), letter: u8) -> (u64, u64)
-    ensures answer { result ≡ grownFits (fitting (patterns_of plan.now)) fits letter }
+    ensures answer { result ≡ grown_fits (fitting (patterns_of plan.now)) fits letter }
 {
     if is_nowhere(fits) {
         plan.first(letter)

@@ -1,6 +1,6 @@
 //! A plan is made pattern by pattern, with its tables.
 ghost use Rattle.std.specs.Prelude.{◌≡◌, ℕ, ◌+◌, ◌*◌, ◌%◌, ◌^◌, ◌<◌, ◌≤◌, List, [], ◌∷◌, ◌++◌, length, bit_or, slice_index};
-ghost use Rattle.pattern.specs.Patterns.{shortest as shortestOf, longest as longestOf};
+ghost use Rattle.pattern.specs.Patterns.{shortest as shortest_of, longest as longest_of};
 ghost use Rattle.pattern.specs.Fits.{steps_where, admits_first};
 ghost use Rattle.plan.specs.Views.{patterns_of, Room, More};
 
@@ -64,7 +64,7 @@ impl Plan {
 
     /// The shortest length with a pattern of this size more.
     fn shorter(&self, size: u8) -> u8
-        ensures { (p : List ℕ) → length p ≡ size → result ≡ shortestOf (patterns_of self.now ++ (p ∷ [])) }
+        ensures { (p : List ℕ) → length p ≡ size → result ≡ shortest_of (patterns_of self.now ++ (p ∷ [])) }
     {
         if self.patterns == 0 {
             return size;
@@ -78,7 +78,7 @@ impl Plan {
 
     /// The longest length with a pattern of this size more.
     fn longer(&self, size: u8) -> u8
-        ensures { (p : List ℕ) → length p ≡ size → result ≡ longestOf (patterns_of self.now ++ (p ∷ [])) }
+        ensures { (p : List ℕ) → length p ≡ size → result ≡ longest_of (patterns_of self.now ++ (p ∷ [])) }
     {
         if size > self.longest {
             size

@@ -1,7 +1,7 @@
 //! The fits of a text: the steps from which on its pattern spells it to the end (closing), and those from which on it is
 //! spelt with a step left over (inner). Both are found for all steps at once, letter by letter.
 ghost use Rattle.std.specs.Prelude.{◌≡◌, ℕ, ◌<◌, ◌≤◌, true, ◌↔◌, List, [], ◌∷◌, length};
-ghost use Rattle.pattern.specs.Patterns.{marks_of, shortest as shortestOf, longest as longestOf};
+ghost use Rattle.pattern.specs.Patterns.{marks_of, shortest as shortest_of, longest as longest_of};
 ghost use Rattle.pattern.specs.Images.{FrontOf};
 ghost use Rattle.pattern.specs.Fits.{fits_of, fitting, admit_of};
 ghost use Rattle.plan.specs.Views.{letters_of, patterns_of, Sound};
@@ -26,14 +26,14 @@ impl Plan {
 
     /// The length of the shortest pattern, 0 where there is none.
     pub fn shortest(&self) -> u8
-        ensures answer { result ≡ shortestOf (patterns_of self.now) }
+        ensures answer { result ≡ shortest_of (patterns_of self.now) }
     {
         self.shortest
     }
 
     /// The length of the longest pattern, 0 where there is none.
     pub fn longest(&self) -> u8
-        ensures answer { result ≡ longestOf (patterns_of self.now) }
+        ensures answer { result ≡ longest_of (patterns_of self.now) }
     {
         self.longest
     }

@@ -15,7 +15,7 @@
 //! ```
 ghost use Rattle.std.specs.Prelude.{◌≡◌, ◌≤◌, length};
 ghost use Rattle.std.specs.Simd.Lanes.{mask_l};
-ghost use Rattle.pattern.specs.Patterns.{Filled, shortest as shortestOf, longest as longestOf};
+ghost use Rattle.pattern.specs.Patterns.{Filled, shortest as shortest_of, longest as longest_of};
 ghost use Rattle.pattern.specs.Fits.{plan_of, rests, opens, steps_where, is_last, Inside, Nonempty, Admit, Firsts};
 ghost use Rattle.plan.specs.Sets.{Within};
 
@@ -60,8 +60,8 @@ pub struct Plan {
     ghost nonempty: { Nonempty (plan_of patterns firsts lengths steps) },
     ghost filled: { Filled (plan_of patterns firsts lengths steps) },
     ghost within: { Within letters (plan_of patterns firsts lengths steps) },
-    ghost least: { shortest ≡ shortestOf (plan_of patterns firsts lengths steps) },
-    ghost most: { longest ≡ longestOf (plan_of patterns firsts lengths steps) },
+    ghost least: { shortest ≡ shortest_of (plan_of patterns firsts lengths steps) },
+    ghost most: { longest ≡ longest_of (plan_of patterns firsts lengths steps) },
     ghost placed: { Firsts (plan_of patterns firsts lengths steps) firsts },
     ghost admits: { Admit (plan_of patterns firsts lengths steps) letters admit },
     ghost opened: { starts ≡ mask_l (opens (plan_of patterns firsts lengths steps)) },

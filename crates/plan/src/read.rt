@@ -1,6 +1,6 @@
 //! A plan from its text, question by question.
 ghost use Rattle.std.specs.Prelude.{◌≡◌};
-ghost use Rattle.notation.specs.Reading.{read_plan, whole as wholeText};
+ghost use Rattle.notation.specs.Reading.{read_plan, whole as whole_text};
 ghost use Rattle.plan.specs.Views.{planned, Over, Right, empty_plan};
 
 use crate::Plan;
@@ -21,7 +21,7 @@ const MOST_STEPS: usize = 64;
 
 /// Whether the text is not too long, and its last byte ends a line.
 fn whole(text: &[u8]) -> bool
-    ensures { result ≡ wholeText text.now }
+    ensures { result ≡ whole_text text.now }
 {
     match text {
         [.., b'\n'] => text.len() <= MOST_BYTES,

@@ -1,6 +1,6 @@
 //! The steps of a pattern from text, sign by sign.
 ghost use Rattle.std.specs.Prelude.{◌≡◌, ◌≤◌};
-ghost use Rattle.notation.specs.Reading.{sign_of, letter_sign, set_of, bracket_of, step_of, every as everyOf};
+ghost use Rattle.notation.specs.Reading.{sign_of, letter_sign, set_of, bracket_of, step_of, every as every_of};
 ghost use Rattle.plan.specs.Views.{found_set};
 
 use notation::{LineFault, Sign};
@@ -34,7 +34,7 @@ fn sign(letters: u8, byte: u8) -> Sign
 /// The set of all letters.
 fn every(letters: u8) -> u32
     requires { letters ≤ 32 }
-    ensures { result ≡ everyOf letters }
+    ensures { result ≡ every_of letters }
 {
     ((1u64 << letters) - 1) as u32
 }

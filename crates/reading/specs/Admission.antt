@@ -7,7 +7,7 @@ use Rattle.plan.specs.declared.Plan.{Plan}
 use Rattle.plan.specs.Views.{letters_of}
 use Rattle.sheet.specs.declared.Sheet.{Sheet}
 use Rattle.judge.specs.Judged.{Answers}
-use Rattle.judge.specs.Refusals.{number_of as numberOfJudge}
+use Rattle.judge.specs.Refusals.{number_of as number_of_judge}
 use Rattle.reading.specs.declared.refusals.AdmitRefusal.{AdmitRefusal}
 use Rattle.reading.specs.declared.refusals.AdmitRefusal.TheVariants.{Alphabet}
 use Rattle.reading.specs.declared.refusals.AdmitRefusal.TheVariants.{Sheet as AboutSheet}
@@ -15,7 +15,7 @@ use Rattle.reading.specs.declared.states.Reading.{Reading}
 
 abbrev pub number_of : AdmitRefusal → ℕ
 number_of Alphabet = 31
-number_of (AboutSheet refusal) = numberOfJudge refusal
+number_of (AboutSheet refusal) = number_of_judge refusal
 
 -- first: has the plan the trace's letters? Then the judge's questions
 abbrev pub Admitted : ℕ → Plan → Sheet → List ℕ → List ℕ → List ℕ → Result (Unit {0}) AdmitRefusal → Type 0

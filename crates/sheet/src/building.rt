@@ -1,7 +1,7 @@
 //! Sheets are made state by state and arrow by arrow.
 ghost use Rattle.std.specs.Prelude.{◌≡◌, replicate, if◌then◌else◌, Ok};
 ghost use Rattle.sheet.specs.Views.{table_of, Gives, Grows};
-ghost use Rattle.sheet.specs.Tables.{single as singleTable, has_state, has_places, redirected, most_letters};
+ghost use Rattle.sheet.specs.Tables.{single as single_table, has_state, has_places, redirected, most_letters};
 ghost use Rattle.sheet.specs.Files.{ask, is_counted};
 ghost use Rattle.sheet.specs.declared.refusals.SheetRefusal.TheVariants.{Counts};
 
@@ -30,7 +30,7 @@ fn is_state(count: usize, state: StateNumber) -> bool
 impl Sheet {
     /// The sheet of one state without marks and arrows, unless there are not 1 to 32 letters.
     pub fn single(heap: Global, letters: u8, shortest: u8) -> Result<Sheet, SheetError>
-        ensures answer { Gives (ask (is_counted 1 letters) Counts (Ok (singleTable letters shortest))) result }
+        ensures answer { Gives (ask (is_counted 1 letters) Counts (Ok (single_table letters shortest))) result }
     {
         if letters == 0 || letters as usize > MOST_LETTERS {
             return Err(SheetError::Refused(SheetRefusal::Counts));

@@ -2,7 +2,7 @@
 ghost use Rattle.std.specs.Prelude.{◌≡◌, ℕ, ◌+◌, ◌*◌, ◌<◌, ◌≤◌, true, map, length, is_ok, IfOk, Err, MatchResult, slice_index};
 ghost use Rattle.sheet.specs.Tables.{most_letters};
 ghost use Rattle.sheet.specs.States.{Each, Good};
-ghost use Rattle.sheet.specs.Files.{entry_size, cut, up_to, sound_entry, sound as soundParts, entry_of, read_file, file_of, ReadingInvertsWriting};
+ghost use Rattle.sheet.specs.Files.{entry_size, cut, up_to, sound_entry, sound as sound_parts, entry_of, read_file, file_of, ReadingInvertsWriting};
 ghost use Rattle.sheet.specs.Views.{table_of, entry_in, Gives};
 
 use crate::states::State;
@@ -52,7 +52,7 @@ fn is_sound(states: u8, part: &[u8]) -> bool
 /// Whether all states behind the head are sound.
 fn are_sound(states: u8, letters: u8, body: &[u8]) -> bool
     requires { length body.now ≡ states * entry_size letters }
-    ensures answer { result ≡ soundParts states (cut (entry_size letters) states body.now) }
+    ensures answer { result ≡ sound_parts states (cut (entry_size letters) states body.now) }
 {
     let size = entry_size(letters);
     let mut rest = body;
@@ -127,7 +127,7 @@ fn state_of(states: u8, letters: u8, part: &[u8]) -> State
 fn states_of(heap: Global, states: u8, letters: u8, body: &[u8]) -> Result<Vec<State>, AllocError>
     requires long { length body.now ≡ states * entry_size letters }
     requires few { letters ≤ most_letters }
-    requires good { soundParts states (cut (entry_size letters) states body.now) ≡ true }
+    requires good { sound_parts states (cut (entry_size letters) states body.now) ≡ true }
     ensures answer { IfOk result (λ v. map (entry_in letters) v.items ≡ map entry_of (cut (entry_size letters) states body.now)) }
     ensures good { IfOk result (λ v. Each (Good letters states) v.items) }
 {

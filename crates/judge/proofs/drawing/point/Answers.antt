@@ -8,6 +8,6 @@ returns c =
     let led = c.in-Some.ensures in
     record {
       held =
-          plot_set c.args.plan.now c.args.cells.now c.args.size c.args.row c.args.letter c.in-Some.entry (table_of c.args.sheet.now) (table_of c.set-arrow.new.self) c.set-arrow.result
-          c.requires.plotted c.requires.entry c.requires.spelt led.inside c.set-arrow.ensures.answer c.set-arrow.ensures.held led.answer;
+          plot_set c.args.plan.now c.args.cells.now c.args.size c.args.row c.args.letter c.in-Some.entry (table_of c.args.sheet.now) (table_of c.set_arrow.new.self) c.set_arrow.result
+          c.requires.plotted c.requires.entry c.requires.spelt led.inside c.set_arrow.ensures.answer c.set_arrow.ensures.held led.answer;
     }

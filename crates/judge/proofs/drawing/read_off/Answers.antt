@@ -12,7 +12,7 @@ states-requires c =
     record { some = some_entry (letters_of plan) (fitting (patterns_of plan)) c.args.cells.now c.args.size c.requires.complete; few = c.requires.few; room = c.requires.complete.room }
 
 pub arrows-requires : goal.arrows-requires
-arrows-requires c = record { few = c.requires.few; complete = c.requires.complete; plotted = plot_begin c.args.plan.now c.args.cells.now c.args.size _ c.in-ok-sheet.ensures.answer }
+arrows-requires c = record { few = c.requires.few; complete = c.requires.complete; plotted = plot_begin c.args.plan.now c.args.cells.now c.args.size _ c.in_ok-sheet.ensures.answer }
 
 pub returns : goal.returns
 returns c =

@@ -6,4 +6,4 @@ use Rattle.judge.proofs.drawing.states.Goals as goal
 
 pub loop-k-preserved : goal.loop-k-preserved
 loop-k-preserved c =
-    bare_more c.args.plan.now c.args.cells.now c.loop-k.k (table_of c.loop-k.sheet) _ _ _ (omega (arith, c.loop-k.auto.k)) c.loop-k.invariant c.marks.ensures.answer c.is-prefix.ensures.answer c.in-Ok-push-state.ensures.answer.2
+    bare_more c.args.plan.now c.args.cells.now c.loop-k.k (table_of c.loop-k.sheet) _ _ _ (omega (arith, c.loop-k.auto.k)) c.loop-k.invariant c.marks.ensures.answer c.is_prefix.ensures.answer c.in-Ok-push_state.ensures.answer.2

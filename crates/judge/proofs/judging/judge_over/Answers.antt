@@ -9,8 +9,8 @@ spell-size-requires c = spellable c.args.plan.now c.args.sheet.now c.args.cells.
 pub bounds-word-size : goal.bounds-word-size
 bounds-word-size c = spelt_room c.args.plan.now c.args.sheet.now c.args.cells.now c.in-Faulty.ensures.answer (omega arith) c.spell-size.ensures (omega arith)
 
-pub overflow-add-result : goal.overflow-add-result
-overflow-add-result c = omega (arith, spelt_few c.args.plan.now c.args.sheet.now c.args.cells.now c.in-Faulty.ensures.answer (omega arith) c.spell-size.ensures (omega arith))
+pub overflow_add-result : goal.overflow_add-result
+overflow_add-result c = omega (arith, spelt_few c.args.plan.now c.args.sheet.now c.args.cells.now c.in-Faulty.ensures.answer (omega arith) c.spell-size.ensures (omega arith))
 
 pub returns-in-Complete : goal.returns-in-Complete
 returns-in-Complete c =

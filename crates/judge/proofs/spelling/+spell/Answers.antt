@@ -12,8 +12,8 @@ spell-size-requires t c = (omega (arith, parent_below c.requires (omega arith)),
 pub bounds-word-size : goal.bounds-word-size
 bounds-word-size t c = spelt_room c.requires (omega arith) c.spell-size.ensures
 
-pub overflow-add-result : goal.overflow-add-result
-overflow-add-result t c = omega (arith, spelt_short c.requires (omega arith) c.spell-size.ensures)
+pub overflow_add-result : goal.overflow_add-result
+overflow_add-result t c = omega (arith, spelt_short c.requires (omega arith) c.spell-size.ensures)
 
 pub returns : goal.returns
 returns t c = spelt_more c.requires (omega arith) c.spell-size.ensures

@@ -3,18 +3,18 @@ use Rattle.std.proofs.lemmas.Bool.Decides.{nat_tests}
 use Rattle.logs.specs.Blocks.{verdict_of}
 use Rattle.logs.proofs.block.judge.Goals as goal
 
-pub returns-then-word-check-of : goal.returns-then-word-check-of
+pub returns-then-word-check_of : goal.returns-then-word-check_of
 unfolding verdict_of
-returns-then-word-check-of c = grind (arith, nat_tests)
+returns-then-word-check_of c = grind (arith, nat_tests)
 
 pub returns-then-from-number : goal.returns-then-from-number
 unfolding verdict_of
 returns-then-from-number c = grind (arith, nat_tests)
 
-pub returns-then-well-headed : goal.returns-then-well-headed
+pub returns-then-well_headed : goal.returns-then-well_headed
 unfolding verdict_of
-returns-then-well-headed c = grind (arith, nat_tests)
+returns-then-well_headed c = grind (arith, nat_tests)
 
-pub returns-else-well-headed : goal.returns-else-well-headed
+pub returns-else-well_headed : goal.returns-else-well_headed
 unfolding verdict_of
-returns-else-well-headed c = grind (arith, nat_tests)
+returns-else-well_headed c = grind (arith, nat_tests)

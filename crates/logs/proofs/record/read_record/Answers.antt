@@ -7,6 +7,6 @@ pub returns-then-code-lt-CODES : goal.returns-then-code-lt-CODES
 unfolding record_cell
 returns-then-code-lt-CODES c = grind (arith, nat_tests)
 
-pub returns-else-from-be-bytes-lt-MINUTES : goal.returns-else-from-be-bytes-lt-MINUTES
+pub returns-else-from_be_bytes-lt-MINUTES : goal.returns-else-from_be_bytes-lt-MINUTES
 unfolding record_cell
-returns-else-from-be-bytes-lt-MINUTES c = grind (arith, nat_tests)
+returns-else-from_be_bytes-lt-MINUTES c = grind (arith, nat_tests)

@@ -7,8 +7,8 @@ use Rattle.plan.proofs.Fitting.{marks_word}
 use Rattle.plan.proofs.Marks.{picked, first_below, marks_begin, marks_step}
 use Rattle.plan.proofs.Plan.marks.Goals as goal
 
-pub overflow-shr-marks : goal.overflow-shr-marks
-overflow-shr-marks c = first_below c.args.self.now (c.loop-j.j - 1) (omega arith)
+pub overflow_shr-marks : goal.overflow_shr-marks
+overflow_shr-marks c = first_below c.args.self.now (c.loop-j.j - 1) (omega arith)
 
 pub loop-j-preserved : goal.loop-j-preserved
 loop-j-preserved c = marks_step c.args.self.now c.args.fits.0 c.loop-j.marks c.loop-j.j (c.loop-j.j - 1) (omega arith) (omega arith) c.loop-j.invariant

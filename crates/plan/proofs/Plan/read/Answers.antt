@@ -10,40 +10,40 @@ use Rattle.plan.specs.Views.{patterns_of}
 use Rattle.plan.proofs.Building.{length_plan}
 use Rattle.plan.proofs.Reading.{right, emptied, refused, begun, room}
 use Rattle.plan.proofs.Plan.read.Goals as goal
-use Rattle.plan.proofs.Plan.read.Goals.{In-ok-plan, Else-not-whole}
+use Rattle.plan.proofs.Plan.read.Goals.{In_ok-plan, Else-not-whole}
 
 -- the alphabet has from 1 to 32 letters
-inside : (c : In-ok-plan) → between 1 32 c.args.letters ≡ true
-inside c = (emptied c.args.letters (patterns_of c.in-ok-plan.plan) c.in-ok-plan.ensures.answer).0
+inside : (c : In_ok-plan) → between 1 32 c.args.letters ≡ true
+inside c = (emptied c.args.letters (patterns_of c.in_ok-plan.plan) c.in_ok-plan.ensures.answer).0
 
 -- the lines are read
 lines : (c : Else-not-whole) → lines_of c.args.letters 32 64 [] c.args.text.now ≡ read_plan c.args.letters c.args.text.now
-lines c = sym (read_lines c.args.letters c.args.text.now (inside (goal.at.loop-rest-init c).In-ok-plan) (sym c.if-not-whole.ensures))
+lines c = sym (read_lines c.args.letters c.args.text.now (inside (goal.at.loop-rest-init c).In_ok-plan) (sym c.if-not-whole.ensures))
 
-pub returns-in-err-plan : goal.returns-in-err-plan
-returns-in-err-plan c =
-    let p = err_from_is_err_and c.from-residual.result c.from-residual.ensures.1 in
-    let answer = refused c.args.letters c.args.text.now _ c.in-err-plan.ensures.answer in
+pub returns-in_err-plan : goal.returns-in_err-plan
+returns-in_err-plan c =
+    let p = err_from_is_err_and c.from_residual.result c.from_residual.ensures.1 in
+    let answer = refused c.args.letters c.args.text.now _ c.in_err-plan.ensures.answer in
     rw (p.1, p.2) (record { answer = answer; letters = tt; right = right c.args.letters c.args.text.now (Err _) answer })
 
 pub returns-then-not-whole : goal.returns-then-not-whole
 returns-then-not-whole c =
-    let answer = sym (read_text c.args.letters c.args.text.now (inside (goal.at.returns-then-not-whole c).In-ok-plan) (sym c.if-not-whole.ensures)) in
+    let answer = sym (read_text c.args.letters c.args.text.now (inside (goal.at.returns-then-not-whole c).In_ok-plan) (sym c.if-not-whole.ensures)) in
     record { answer = answer; letters = tt; right = right c.args.letters c.args.text.now (Err Text) answer }
 
 pub loop-rest-init : goal.loop-rest-init
 loop-rest-init c =
-    let made = c.in-ok-plan.ensures in
-    (begun c.args.letters c.args.text.now c.in-ok-plan.plan made.answer, made.letters)
+    let made = c.in_ok-plan.ensures in
+    (begun c.args.letters c.args.text.now c.in_ok-plan.plan made.answer, made.letters)
 
-pub returns-then-number-gt-MOST-LINES : goal.returns-then-number-gt-MOST-LINES
-returns-then-number-gt-MOST-LINES c =
+pub returns-then-number-gt-MOST_LINES : goal.returns-then-number-gt-MOST_LINES
+returns-then-number-gt-MOST_LINES c =
     let plan = c.loop-rest.plan in
     let some : 0 < length c.loop-rest.rest.now = omega (arith, false-eqb _ 0 c.loop-rest-test.ensures) in
     let answer =
     ap (λ (n : ℕ). Err (Line (n + 1) LineFault.TooManyLines)) (sym (length_plan plan))
     ∙ sym (lines_full c.args.letters (64 - plan.count) (patterns_of plan) (32 - plan.patterns) c.loop-rest.rest.now some (omega arith))
-    ∙ c.loop-rest.invariant.0 ∙ lines (goal.at.returns-then-number-gt-MOST-LINES c).Else-not-whole
+    ∙ c.loop-rest.invariant.0 ∙ lines (goal.at.returns-then-number-gt-MOST_LINES c).Else-not-whole
     in
     record { answer = answer; letters = tt; right = right c.args.letters c.args.text.now (Err (Line _ LineFault.TooManyLines)) answer }
 

@@ -16,10 +16,26 @@ made c =
       there = c.written.ensures.there;
     }
 
-pub invariant-of-result : goal.invariant-of-result
-invariant-of-result c =
-    let m = made (goal.at.invariant-of-result c).After-columns in
-    (omega arith, (omega arith, (omega (arith, c.requires.patterns), (omega (arith, c.requires.steps), (inside_new _ _ _ m, (counted_new _ _ _ m, (nonempty_new _ _ _ m, (filled_new _ _ _ m, (within_new _ _ _ m, (least_new _ _ _ m c.shorter.result c.shorter.ensures, (most_new _ _ _ m c.longer.result c.longer.ensures, (placed_new _ _ _ m, (admits_new _ _ _ m c.columns.result c.columns.ensures, (opened_new _ _ _ m, (ended_new _ _ _ m, tt)))))))))))))))
+pub invariant_of-result : goal.invariant_of-result
+invariant_of-result c =
+    let m = made (goal.at.invariant_of-result c).After-columns in
+    record {
+      lettered = omega arith;
+      alphabet = omega arith;
+      few = omega (arith, c.requires.patterns);
+      small = omega (arith, c.requires.steps);
+      inside = inside_new _ _ _ m;
+      counted = counted_new _ _ _ m;
+      nonempty = nonempty_new _ _ _ m;
+      filled = filled_new _ _ _ m;
+      within = within_new _ _ _ m;
+      least = least_new _ _ _ m c.shorter.result c.shorter.ensures;
+      most = most_new _ _ _ m c.longer.result c.longer.ensures;
+      placed = placed_new _ _ _ m;
+      admits = admits_new _ _ _ m c.columns.result c.columns.ensures;
+      opened = opened_new _ _ _ m;
+      ended = ended_new _ _ _ m;
+    }
 
 pub returns : goal.returns
 returns c = let m = made (goal.at.returns c).After-columns in record { letters = refl; patterns = refl; count = refl; more = view _ _ _ m }

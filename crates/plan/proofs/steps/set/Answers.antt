@@ -10,8 +10,8 @@ use Rattle.plan.proofs.steps.set.Goals as goal
 below : (c : goal.In-Letter) → c.in-Letter.a < 32
 below c = omega (arith, (letter_means c.args.letters (get_or c.loop-rest.rest.now 0 0) c.in-Letter.a c.in-Letter.ensures).0)
 
-pub overflow-shl-set : goal.overflow-shl-set
-overflow-shl-set c = below c
+pub overflow_shl-set : goal.overflow_shl-set
+overflow_shl-set c = below c
 
 pub loop-rest-preserved : goal.loop-rest-preserved
 unfolding in_set
@@ -37,8 +37,8 @@ returns-else-set-eq0 c =
     ∙ sym (set_by c.args.letters c.loop-rest.set c.loop-rest.rest.now (omega (arith, ltb-true, ltb-false)) _ c.in-Close.ensures)
     ∙ c.loop-rest.invariant
 
-pub returns-in-default-sign : goal.returns-in-default-sign
-returns-in-default-sign c =
-    sym (set_other _ _ _ _ c.in-default-sign.not-Letter c.in-default-sign.not-Close)
+pub returns-in_default-sign : goal.returns-in_default-sign
+returns-in_default-sign c =
+    sym (set_other _ _ _ _ c.in_default-sign.not-Letter c.in_default-sign.not-Close)
     ∙ sym (set_by c.args.letters c.loop-rest.set c.loop-rest.rest.now (omega (arith, ltb-true, ltb-false)) _ c.sign.ensures)
     ∙ c.loop-rest.invariant

@@ -20,17 +20,17 @@ pub returns-in-94 : goal.returns-in-94
 unfolding sign_of
 returns-in-94 c = grind (arith, nat_tests)
 
-pub returns-in-default : goal.returns-in-default
+pub returns-in_default : goal.returns-in_default
 unfolding sign_of
-returns-in-default c = grind (arith, nat_tests)
+returns-in_default c = grind (arith, nat_tests)
 
-pub returns-in-default·2 : goal.returns-in-default·2
+pub returns-in_default-2 : goal.returns-in_default-2
 unfolding sign_of
-returns-in-default·2 c = grind (arith, nat_tests)
+returns-in_default-2 c = grind (arith, nat_tests)
 
-pub returns-in-default·3 : goal.returns-in-default·3
+pub returns-in_default-3 : goal.returns-in_default-3
 unfolding sign_of
-returns-in-default·3 c = grind (arith, nat_tests)
+returns-in_default-3 c = grind (arith, nat_tests)
 
 pub returns-in-A-to-Z : goal.returns-in-A-to-Z
 unfolding sign_of

@@ -6,14 +6,14 @@ use Rattle.notation.proofs.Signs.{letter_means}
 use Rattle.notation.proofs.Turns.{tail, step_by, step_none, sign_other}
 use Rattle.plan.proofs.steps.step.Goals as goal
 
-pub returns-in-default : goal.returns-in-default
-returns-in-default c = sym (step_none c.args.letters c.args.text.now (omega (arith, ltb-true, ltb-false)))
+pub returns-in_default : goal.returns-in_default
+returns-in_default c = sym (step_none c.args.letters c.args.text.now (omega (arith, ltb-true, ltb-false)))
 
 below : (c : goal.In-Letter) → c.in-Letter.a < 32
 below c = omega (arith, (letter_means c.args.letters (get_or c.args.text.now 0 0) c.in-Letter.a c.in-Letter.ensures).0)
 
-pub overflow-shl-result : goal.overflow-shl-result
-overflow-shl-result c = below c
+pub overflow_shl-result : goal.overflow_shl-result
+overflow_shl-result c = below c
 
 pub returns-in-Letter : goal.returns-in-Letter
 unfolding by_sign
@@ -33,7 +33,7 @@ returns-in-Open c =
     c.bracket.ensures
     ∙ sym (step_by c.args.letters c.args.text.now (omega (arith, ltb-true, ltb-false)) _ c.in-Open.ensures)
 
-pub returns-in-default-sign : goal.returns-in-default-sign
-returns-in-default-sign c =
-    sym (sign_other _ _ _ c.in-default-sign.not-Letter c.in-default-sign.not-Dot c.in-default-sign.not-Open)
+pub returns-in_default-sign : goal.returns-in_default-sign
+returns-in_default-sign c =
+    sym (sign_other _ _ _ c.in_default-sign.not-Letter c.in_default-sign.not-Dot c.in_default-sign.not-Open)
     ∙ sym (step_by c.args.letters c.args.text.now (omega (arith, ltb-true, ltb-false)) _ c.sign.ensures)

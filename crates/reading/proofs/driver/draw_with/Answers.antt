@@ -4,5 +4,5 @@ use Rattle.reading.proofs.driver.draw_with.Goals as goal
 
 pub returns : goal.returns
 returns c =
-    let s = c.as-mut-slice.ensures in
+    let s = c.as_mut_slice.ensures in
     record { drawn = drawn_back _ _ _ _ _ _ _ s.value s.len c.draw-sheet.ensures.drawn }

@@ -10,14 +10,14 @@ returns-in-Draw g c =
     let row = g.T.Trace.row c.args.reading.trace in
     record {
       kept = refl;
-      law = of_call K row (Idle c.args.reading) (Idle c.args.reading) _ _ _ c.in-Draw.is (drawn_idle K row c.args.reading c.in-Draw.plan c.in-Draw.memory c.draw-with-sheet.result.1 c.draw-with-sheet.result.0 c.draw-with-sheet.ensures.drawn);
+      law = of_call K row (Idle c.args.reading) (Idle c.args.reading) _ _ _ c.in-Draw.is (drawn_idle K row c.args.reading c.in-Draw.plan c.in-Draw.memory c.draw_with-sheet.result.1 c.draw_with-sheet.result.0 c.draw_with-sheet.ensures.drawn);
     }
 
 pub returns-in-Admit : goal.returns-in-Admit
 returns-in-Admit g c =
     let K = g.T.Trace.alphabet in
     let r = c.args.reading in
-    let v = c.admit-with-verdict in
+    let v = c.admit_with-verdict in
     let row = g.T.Trace.row r.trace in
     record {
       kept = replaced_trace K row r v.new.reading c.in-Admit.plan c.in-Admit.sheet v.result.0 v.ensures.held;

@@ -11,7 +11,7 @@ returns-in-Draw g c =
     let row = g.T.Trace.row s.reading.trace in
     record {
       kept = refl;
-      law = of_call K row (Searching s) (Searching s) _ _ _ c.in-Draw.is (drawn_searching K row s c.in-Draw.plan c.in-Draw.memory c.draw-with-sheet.result.1 c.draw-with-sheet.result.0 c.draw-with-sheet.ensures.drawn);
+      law = of_call K row (Searching s) (Searching s) _ _ _ c.in-Draw.is (drawn_searching K row s c.in-Draw.plan c.in-Draw.memory c.draw_with-sheet.result.1 c.draw_with-sheet.result.0 c.draw_with-sheet.ensures.drawn);
     }
 
 pub returns-in-Next : goal.returns-in-Next

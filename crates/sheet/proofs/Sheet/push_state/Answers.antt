@@ -5,12 +5,12 @@ use Rattle.sheet.specs.declared.states.State.{State}
 use Rattle.sheet.proofs.Goods.{sheet_good, good-pushed, pushed-is}
 use Rattle.sheet.proofs.Sheet.push_state.Goals as goal
 
-pub returns-then-len-eq-MOST-STATES : goal.returns-then-len-eq-MOST-STATES
-returns-then-len-eq-MOST-STATES c =
+pub returns-then-len-eq-MOST_STATES : goal.returns-then-len-eq-MOST_STATES
+returns-then-len-eq-MOST_STATES c =
     record { answer = (simp length-map (omega (arith, c.args.self.now.states.ok.0)), refl) }
 
-pub invariant-of-self : goal.invariant-of-self
-invariant-of-self c =
+pub invariant_of-self : goal.invariant_of-self
+invariant_of-self c =
     let sheet = c.args.self.now in
     let g =
     good-pushed (is_ok c.push.result) sheet.letters (vec_len sheet.states) (vec_len c.push.new.self) c.args.marks c.args.prefix (vec_items sheet.states) (vec_items c.push.new.self)
@@ -19,7 +19,16 @@ invariant-of-self c =
     c.push.ensures.len
     (sheet_good sheet)
     in
-    (sheet.some, (sheet.few, (search rules, (search rules, ((λ k. (g k).marks), ((λ k. (g k).wide), ((λ k. (g k).inside), ((λ k. (g k).bare), tt))))))))
+    record {
+      some = sheet.some;
+      few = sheet.few;
+      started = search rules;
+      counted = search rules;
+      marked = λ k. (g k).marks;
+      wide = λ k. (g k).wide;
+      inside = λ k. (g k).inside;
+      bare = λ k. (g k).bare;
+    }
 
 pub returns-in-Ok : goal.returns-in-Ok
 returns-in-Ok c =

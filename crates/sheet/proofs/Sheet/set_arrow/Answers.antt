@@ -5,18 +5,18 @@ use Rattle.sheet.proofs.Sheet.set_arrow.Goals as goal
 
 pub index-requires : goal.index-requires
 index-requires c =
-    let e = exist c.args.self.now c.args.from c.args.letter c.args.to c.if-not-has-places.ensures.answer in
+    let e = exist c.args.self.now c.args.from c.args.letter c.args.to c.if-not-has_places.ensures.answer in
     omega arith
 
-pub index-mut-requires : goal.index-mut-requires
-index-mut-requires c =
-    let e = exist c.args.self.now c.args.from c.args.letter c.args.to c.if-not-has-places.ensures.answer in
+pub index_mut-requires : goal.index_mut-requires
+index_mut-requires c =
+    let e = exist c.args.self.now c.args.from c.args.letter c.args.to c.if-not-has_places.ensures.answer in
     omega arith
 
-pub invariant-of-self : goal.invariant-of-self
-invariant-of-self c =
+pub invariant_of-self : goal.invariant_of-self
+invariant_of-self c =
     let sheet = c.args.self.now in
-    let e = exist sheet c.args.from c.args.letter c.args.to c.if-not-has-places.ensures.answer in
+    let e = exist sheet c.args.from c.args.letter c.args.to c.if-not-has_places.ensures.answer in
     let g =
     good-set sheet.letters (vec_len sheet.states) (vec_items sheet.states) (c.args.from - 1) c.index.result.now c.args.letter c.args.to
     (omega (arith, sheet.states.ok.0))
@@ -26,14 +26,23 @@ invariant-of-self c =
     e.to_in
     (sheet_good sheet)
     in
-    (sheet.some, (sheet.few, (sheet.started, (sheet.counted, ((λ k. (g k).marks), ((λ k. (g k).wide), ((λ k. (g k).inside), ((λ k. (g k).bare), tt))))))))
+    record {
+      some = sheet.some;
+      few = sheet.few;
+      started = sheet.started;
+      counted = sheet.counted;
+      marked = λ k. (g k).marks;
+      wide = λ k. (g k).wide;
+      inside = λ k. (g k).inside;
+      bare = λ k. (g k).bare;
+    }
 
 pub returns : goal.returns
 returns c =
     let sheet = c.args.self.now in
-    let e = exist sheet c.args.from c.args.letter c.args.to c.if-not-has-places.ensures.answer in
+    let e = exist sheet c.args.from c.args.letter c.args.to c.if-not-has_places.ensures.answer in
     record {
-      answer = c.if-not-has-places.ensures.answer;
+      answer = c.if-not-has_places.ensures.answer;
       held =
           turned-is sheet.letters sheet.shortest c.args.from (c.args.from - 1) (vec_items sheet.states) c.index.result.now c.args.letter c.args.to
           (omega arith)

@@ -7,29 +7,29 @@ use Rattle.sheet.specs.Views.{entry_in, table_of}
 use Rattle.sheet.proofs.Goods.{sheet_good, sheet_lawful}
 use Rattle.sheet.proofs.Writes.{front, written-more, file_long, file-written, no_room, room, read_again}
 use Rattle.sheet.proofs.Sheet.write.Goals as goal
-use Rattle.sheet.proofs.Sheet.write.Goals.{After-entry-size-size}
+use Rattle.sheet.proofs.Sheet.write.Goals.{After-entry_size-size}
 
 -- the length that the code computes is the file's
-long : (c : After-entry-size-size) → 4 + c.len-count.result * c.entry-size-size.result ≡ length (file_of (table_of c.args.self.now))
+long : (c : After-entry_size-size) → 4 + c.len-count.result * c.entry_size-size.result ≡ length (file_of (table_of c.args.self.now))
 long c =
-    ap (λ (n : ℕ). 4 + n * c.entry-size-size.result) c.len-count.ensures
-    ∙ ap (λ (n : ℕ). 4 + vec_len c.args.self.now.states * n) c.entry-size-size.ensures.answer
+    ap (λ (n : ℕ). 4 + n * c.entry_size-size.result) c.len-count.ensures
+    ∙ ap (λ (n : ℕ). 4 + vec_len c.args.self.now.states * n) c.entry_size-size.ensures.answer
     ∙ sym (file_long c.args.self.now)
 
 pub returns-then-buffer-long : goal.returns-then-buffer-long
 returns-then-buffer-long c =
-    let l = long (goal.at.returns-then-buffer-long c).After-entry-size-size in
+    let l = long (goal.at.returns-then-buffer-long c).After-entry_size-size in
     let no = no_room (table_of c.args.self.now) c.args.buffer.now (omega (arith, l)) in
     record { answer = no.0; held = no.1; again = tt }
 
-pub put-state-requires : goal.put-state-requires
-put-state-requires c =
+pub put_state-requires : goal.put_state-requires
+put_state-requires c =
     let sheet = c.args.self.now in
     let i = c.loop-i.i in
-    let e = c.entry-size-size.ensures.answer in
-    let k : i * c.entry-size-size.result + c.entry-size-size.result ≤ c.len-count.result * c.entry-size-size.result =
-    let m = mul-le-mul_right c.entry-size-size.result c.loop-i-test.true in
-    let n = suc-mul i c.entry-size-size.result in
+    let e = c.entry_size-size.ensures.answer in
+    let k : i * c.entry_size-size.result + c.entry_size-size.result ≤ c.len-count.result * c.entry_size-size.result =
+    let m = mul-le-mul_right c.entry_size-size.result c.loop-i-test.true in
+    let n = suc-mul i c.entry_size-size.result in
     omega arith
     in
     let g : Good sheet.letters (vec_len sheet.states) c.index.result.now =
@@ -48,8 +48,8 @@ pub loop-i-preserved : goal.loop-i-preserved
 loop-i-preserved c =
     let sheet = c.args.self.now in
     let i = c.loop-i.i in
-    c.put-state.ensures.after
-    ∙ ap (λ (n : ℕ). paste c.loop-i.buffer (4 + i * n) (entry_bytes (entry_in sheet.letters c.index.result.now)) (entry_size sheet.letters)) c.entry-size-size.ensures.answer
+    c.put_state.ensures.after
+    ∙ ap (λ (n : ℕ). paste c.loop-i.buffer (4 + i * n) (entry_bytes (entry_in sheet.letters c.index.result.now)) (entry_size sheet.letters)) c.entry_size-size.ensures.answer
     ∙ written-more sheet.letters (vec_items sheet.states) sheet.wide sheet.few c.put.new.buffer c.loop-i.buffer i c.index.result.now
     (omega (arith, c.if-buffer-long.false, c.put.auto.buffer)) (omega (arith, sheet.states.ok.0)) c.index.ensures c.loop-i.invariant
 
@@ -58,7 +58,7 @@ returns c =
     let sheet = c.args.self.now in
     let d = c.args.buffer.now in
     let t = table_of sheet in
-    let l = long (goal.at.returns c).After-entry-size-size in
+    let l = long (goal.at.returns c).After-entry_size-size in
     let ended : c.loop-i.i ≡ c.len-count.result = omega arith in
     let all = c.loop-i.invariant ∙ ap (λ (n : ℕ). paste c.put.new.buffer 4 (front sheet.letters (vec_items sheet.states) n) (n * entry_size sheet.letters)) ended in
     let file = file-written sheet d c.put.new.buffer c.loop-i.buffer c.len-count.result c.len-count.ensures c.put.ensures.after all in

@@ -4,4 +4,4 @@ use Rattle.sheet.proofs.writing.put.Goals as goal
 
 pub returns : goal.returns
 returns c =
-    record { after = put_mid-paste c.args.at _ c.args.buffer.now c.copy-from-slice.new.self c.args.bytes.now (length c.args.bytes.now) c.copy-from-slice.ensures.after (omega arith) refl }
+    record { after = put_mid-paste c.args.at _ c.args.buffer.now c.copy_from_slice.new.self c.args.bytes.now (length c.args.bytes.now) c.copy_from_slice.ensures.after (omega arith) refl }

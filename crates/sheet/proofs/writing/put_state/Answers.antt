@@ -10,10 +10,10 @@ returns c =
     let s = c.args.state.now in
     record {
       after =
-          c.put-arrows.ensures.after
+          c.put_arrows.ensures.after
           ∙ ap (λ (b : List ℕ). paste b (at + 5) s.arrows c.args.letters)
           (c.put-2.ensures.after
           ∙ ap (λ (n : ℕ). paste c.put.new.buffer (at + 4) (n ∷ []) 1) (c.from.ensures ∙ byte_of s.prefix)
-          ∙ ap (λ (b : List ℕ). paste b (at + 4) (cond s.prefix 1 0 ∷ []) 1) (c.put.ensures.after ∙ ap (λ (xs : List ℕ). paste d at xs (length xs)) c.to-be-bytes.ensures))
+          ∙ ap (λ (b : List ℕ). paste b (at + 4) (cond s.prefix 1 0 ∷ []) 1) (c.put.ensures.after ∙ ap (λ (xs : List ℕ). paste d at xs (length xs)) c.to_be_bytes.ensures))
           ∙ state-written d at c.args.letters s (omega arith) c.requires.wide;
     }

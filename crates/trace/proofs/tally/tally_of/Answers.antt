@@ -7,9 +7,9 @@ pub loop-i-preserved : goal.loop-i-preserved
 loop-i-preserved g c =
     let row = g.T.Trace.row c.args.trace.now in
     let read = ap is_ok (sym c.cell.ensures) ∙ sym c.is_ok.ensures.value in
-    elim c.if-is-ok.branch [
-      | then-is_ok w ↦ let k = count_yes row c.loop-i.i (omega arith) (read ∙ w.if-is-ok.true) in (omega arith, omega arith)
-      | else-is_ok w ↦ let k = count_no row c.loop-i.i (omega arith) (read ∙ w.if-is-ok.false) in (omega arith, omega arith)
+    elim c.if-is_ok.branch [
+      | then-is_ok w ↦ let k = count_yes row c.loop-i.i (omega arith) (read ∙ w.if-is_ok.true) in (omega arith, omega arith)
+      | else-is_ok w ↦ let k = count_no row c.loop-i.i (omega arith) (read ∙ w.if-is_ok.false) in (omega arith, omega arith)
     ]
 
 pub returns : goal.returns

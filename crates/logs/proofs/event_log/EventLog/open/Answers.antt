@@ -8,4 +8,4 @@ loop-place-preserved c =
 
 pub returns : goal.returns
 returns c =
-    ((c.if-len-ne0.false, c.if-len-gt-MOST-BYTES.false), row_whole c.args.bytes.now c.loop-place.verdicts _ c.count-cells-cells.result refl (omega arith) (λ k h. c.loop-place.invariant.1 k (omega arith)) c.count-cells-cells.ensures)
+    ((c.if-len-ne0.false, c.if-len-gt-MOST_BYTES.false), row_whole c.args.bytes.now c.loop-place.verdicts _ c.count_cells-cells.result refl (omega arith) (λ k h. c.loop-place.invariant.1 k (omega arith)) c.count_cells-cells.ensures)

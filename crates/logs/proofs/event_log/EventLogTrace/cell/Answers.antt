@@ -9,15 +9,15 @@ returns-then-i-len c = search (rules, rows)
 pub bounds-self-block : goal.bounds-self-block
 bounds-self-block c =
     let log = c.args.self.now in
-    (place_within log.bytes.now log.verdicts log.cells c.args.i c.len.result c.place-of-block.result c.if-i-len.false c.len.ensures c.place-of-block.ensures).0
+    (place_within log.bytes.now log.verdicts log.cells c.args.i c.len.result c.place_of-block.result c.if-i-len.false c.len.ensures c.place_of-block.ensures).0
 
-pub cell-in-requires : goal.cell-in-requires
-cell-in-requires c =
+pub cell_in-requires : goal.cell_in-requires
+cell_in-requires c =
     let log = c.args.self.now in
-    let w = place_within log.bytes.now log.verdicts log.cells c.args.i c.len.result c.place-of-block.result c.if-i-len.false c.len.ensures c.place-of-block.ensures in
+    let w = place_within log.bytes.now log.verdicts log.cells c.args.i c.len.result c.place_of-block.result c.if-i-len.false c.len.ensures c.place_of-block.ensures in
     (w.1, w.2)
 
 pub returns : goal.returns
 returns c =
     let log = c.args.self.now in
-    c.cell-in.ensures ∙ cell_at_place log.bytes.now log.verdicts log.cells c.args.i c.len.result c.place-of-block.result c.if-i-len.false c.len.ensures c.place-of-block.ensures
+    c.cell_in.ensures ∙ cell_at_place log.bytes.now log.verdicts log.cells c.args.i c.len.result c.place_of-block.result c.if-i-len.false c.len.ensures c.place_of-block.ensures

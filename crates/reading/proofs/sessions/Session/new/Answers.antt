@@ -4,5 +4,5 @@ use Rattle.reading.proofs.sessions.Session.new.Goals as goal
 
 pub returns : goal.returns
 returns g c =
-    let fresh = c.in-ok-new.ensures.answer in
+    let fresh = c.in_ok-new.ensures.answer in
     record { answer = (fresh.0, fresh_agrees g.T.Trace.alphabet (g.T.Trace.row c.args.trace) _ fresh.1 fresh.2 fresh.3) }

@@ -30,26 +30,26 @@ returns-in-Ok g c =
       answer = c.follow.ensures.answer ∙ sym (following_to (automaton_of c.args.self.now.sheet) row (conf_of s) a within at);
     }
 
-pub returns-then-is-none : goal.returns-then-is-none
-returns-then-is-none g c =
+pub returns-then-is_none : goal.returns-then-is_none
+returns-then-is_none g c =
     let s = c.args.at in
     let cells = g.T.Trace.row c.args.self.now.trace in
     let row = letters_in cells in
     let within : s.o ≤ s.p = c.if-at.false in
     let at : cell row (s.p - s.o) ≡ None = read_fault cells (s.p - s.o) c.in-Err.field-0 (sym c.in-Err.ensures) in
     record {
-      looked = looked_first row s within at c.if-is-none.ensures;
+      looked = looked_first row s within at c.if-is_none.ensures;
       answer = sym (following_damage (automaton_of c.args.self.now.sheet) row (conf_of s) within at);
     }
 
-pub returns-else-is-none : goal.returns-else-is-none
-returns-else-is-none g c =
+pub returns-else-is_none : goal.returns-else-is_none
+returns-else-is_none g c =
     let s = c.args.at in
     let cells = g.T.Trace.row c.args.self.now.trace in
     let row = letters_in cells in
     let within : s.o ≤ s.p = c.if-at.false in
     let at : cell row (s.p - s.o) ≡ None = read_fault cells (s.p - s.o) c.in-Err.field-0 (sym c.in-Err.ensures) in
     record {
-      looked = looked_again row s within c.if-is-none.ensures;
+      looked = looked_again row s within c.if-is_none.ensures;
       answer = sym (following_damage (automaton_of c.args.self.now.sheet) row (conf_of s) within at);
     }

@@ -8,10 +8,10 @@ use Rattle.reading.proofs.states.Reading.new.Goals as goal
 pub unreachable-requires : goal.unreachable-requires
 unreachable-requires g c =
     let l = g.T.Trace.lawful c.args.trace in
-    never_refused c.letters-letters.result _ _ (omega (arith, c.letters-letters.ensures, l.some_letter)) (omega (arith, c.letters-letters.ensures, l.few_letters)) c.in-default.ensures.answer
+    never_refused c.letters-letters.result _ _ (omega (arith, c.letters-letters.ensures, l.some_letter)) (omega (arith, c.letters-letters.ensures, l.few_letters)) c.in_default.ensures.answer
 
-pub invariant-of-result : goal.invariant-of-result
-invariant-of-result g c =
+pub invariant_of-result : goal.invariant_of-result
+invariant_of-result g c =
     let none = (emptied c.letters-letters.result _ c.in-Ok.ensures.answer).1 in
     let one = single_table c.letters-letters.result _ c.in-Ok-single.ensures.answer in
     (fresh_right c.in-Ok.plan c.in-Ok-single.sheet c.letters-letters.result none one, (ap (λ (t : Table). t.letters) one ∙ sym c.in-Ok.ensures.letters, (fresh_least _ _ c.letters-letters.result none one, tt)))

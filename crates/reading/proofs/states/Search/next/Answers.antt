@@ -33,7 +33,7 @@ jumps : (g : given.Over) (c : goal.After-jump-at g) → Went (automaton_of c.arg
 jumps g c =
     let l = g.T.Trace.lawful c.args.self.now.reading.trace in
     jump_went _ _ _ c.loop-at.at c.follow-to.result.0 c.jump-at.result
-    (turn l _ _ c.loop-at.at c.follow-to.result.0 c.len-len.ensures c.loop-at.invariant.0 c.if-least-eq0.false c.shortest-least.type-inv c.loop-at.invariant.2.roomy c.follow-to.ensures.looked)
+    (turn l _ _ c.loop-at.at c.follow-to.result.0 c.len-len.ensures c.loop-at.invariant.0 c.if-least-eq0.false c.shortest-least.type_inv c.loop-at.invariant.2.roomy c.follow-to.ensures.looked)
     (sym c.in-None.is ∙ c.follow-to.ensures.answer)
     c.jump-at.ensures.answer
 
@@ -47,7 +47,7 @@ steps : (g : given.Over) (c : goal.Else-marks-ne0 g) → Went (automaton_of c.ar
 steps g c =
     let l = g.T.Trace.lawful c.args.self.now.reading.trace in
     step_went _ _ _ c.loop-at.at c.follow-to.result.0 c.step-at.result
-    (turn l _ _ c.loop-at.at c.follow-to.result.0 c.len-len.ensures c.loop-at.invariant.0 c.if-least-eq0.false c.shortest-least.type-inv c.loop-at.invariant.2.roomy c.follow-to.ensures.looked)
+    (turn l _ _ c.loop-at.at c.follow-to.result.0 c.len-len.ensures c.loop-at.invariant.0 c.if-least-eq0.false c.shortest-least.type_inv c.loop-at.invariant.2.roomy c.follow-to.ensures.looked)
     c.in-Some.q
     (sym c.in-Some.is ∙ c.follow-to.ensures.answer)
     c.step-at.ensures.answer
@@ -60,11 +60,11 @@ pub loop-at-preserved : goal.loop-at-preserved
 loop-at-preserved g c =
     (omega (arith, ap (λ (k : Conf). k.p) c.step-at.ensures.answer, ap (λ (k : Conf). k.p) c.follow-to.ensures.looked, c.loop-at.invariant.0), c.loop-at.invariant.1, onward_trans c.loop-at.invariant.2 (steps g c).onward)
 
-pub overflow-sub-found : goal.overflow-sub-found
-overflow-sub-found g c =
+pub overflow_sub-found : goal.overflow_sub-found
+overflow_sub-found g c =
     let l = g.T.Trace.lawful c.args.self.now.reading.trace in
     (step_room (automaton_of c.args.self.now.reading.sheet) _ _ c.loop-at.at c.follow-to.result.0 c.step-at.result
-    (turn l _ _ c.loop-at.at c.follow-to.result.0 c.len-len.ensures c.loop-at.invariant.0 c.if-least-eq0.false c.shortest-least.type-inv c.loop-at.invariant.2.roomy c.follow-to.ensures.looked)
+    (turn l _ _ c.loop-at.at c.follow-to.result.0 c.len-len.ensures c.loop-at.invariant.0 c.if-least-eq0.false c.shortest-least.type_inv c.loop-at.invariant.2.roomy c.follow-to.ensures.looked)
     c.in-Some.q
     (sym c.in-Some.is ∙ c.follow-to.ensures.answer)
     c.step-at.ensures.answer
@@ -78,7 +78,7 @@ leaves g c =
       | else-places-test w ↦
           leaves_end _ _ _ _ c.places.at _ _ w.at-is (w.found-is ∙ c.places.invariant.0) c.places.invariant.1 (omega (arith, c.len-len.ensures, w.places-test.false, length_letters cells))
       | then-places-test+in-Some+then-marks-ne0 w ↦
-          let t = turn (g.T.Trace.lawful c.args.self.now.reading.trace) _ _ w.loop-at.at w.follow-to.result.0 c.len-len.ensures w.loop-at.invariant.0 c.if-least-eq0.false c.shortest-least.type-inv w.loop-at.invariant.2.roomy w.follow-to.ensures.looked in
+          let t = turn (g.T.Trace.lawful c.args.self.now.reading.trace) _ _ w.loop-at.at w.follow-to.result.0 c.len-len.ensures w.loop-at.invariant.0 c.if-least-eq0.false c.shortest-least.type_inv w.loop-at.invariant.2.roomy w.follow-to.ensures.looked in
           let e = sym w.in-Some.is ∙ w.follow-to.ensures.answer in
           leaves_found _ _ _ _ w.loop-at.at w.step_at.result _ _ _ w.at-is w.found-is
           (onward_trans c.places.invariant.1 w.loop-at.invariant.2)
@@ -86,10 +86,10 @@ leaves g c =
           (step_room _ _ _ w.loop-at.at w.follow-to.result.0 w.step_at.result t w.in-Some.q e w.step_at.ensures.answer)
     ]
 
-pub invariant-of-self : goal.invariant-of-self
-invariant-of-self g c =
-    let l = leaves g (goal.at.invariant-of-self g c).Left-places in
-    (l.roomy, (omega (arith, l.more, c.args.self.now.few, c.count-of.ensures.answer), tt))
+pub invariant_of-self : goal.invariant_of-self
+invariant_of-self g c =
+    let l = leaves g (goal.at.invariant_of-self g c).Left-places in
+    (l.roomy, (omega (arith, l.more, c.args.self.now.few, c.count_of.ensures.answer), tt))
 
 pub returns : goal.returns
 returns g c =
@@ -98,8 +98,8 @@ returns g c =
     let n = next_by _ _ c.shortest-least.ensures.answer l.next in
     record {
       answer = n;
-      counted = omega (arith, c.count-of.ensures.answer);
+      counted = omega (arith, c.count_of.ensures.answer);
       kept = refl;
       hit = λ answers s. hit_is me (g.T.Trace.lawful me.reading.trace) s _ _ n;
-      standing = λ answers s. record { lettered = s.lettered; reached = asked s.reached n; counted = omega (arith, s.counted, c.count-of.ensures.answer, count_more answers c.places-test.found) };
+      standing = λ answers s. record { lettered = s.lettered; reached = asked s.reached n; counted = omega (arith, s.counted, c.count_of.ensures.answer, count_more answers c.places-test.found) };
     }

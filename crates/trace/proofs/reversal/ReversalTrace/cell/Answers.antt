@@ -8,5 +8,5 @@ returns-then-i-n g c = search (rules, rows)
 pub returns : goal.returns
 returns g c = search (rules, rows)
 
-pub returns-in-err-letter : goal.returns-in-err-letter
-returns-in-err-letter g c = search (rules, rows)
+pub returns-in_err-letter : goal.returns-in_err-letter
+returns-in_err-letter g c = search (rules, rows)
