@@ -1,5 +1,7 @@
 //! Factor automata that read backwards, wrong words, and why the search with jumps misses nothing: definitions and theorems.
 //! There is nothing to run: each function stands for a theorem, which its contract names.
+#![tactic(auto)]
+
 ghost use Rattle.automaton.specs.Automata.{LedIsReached};
 ghost use Rattle.automaton.specs.Wrong.{WrongByTexts, BareSheetsAreRight};
 ghost use Rattle.automaton.specs.Judging.{JudgeIsRight, NoWrongIsRight};

@@ -2,7 +2,7 @@
 --   note_of, line_of, counts_of             what the lines are made from
 --   damage_text, cell_text, count_text     their texts, each character by its code
 -- Assumes nothing.
-use Rattle.std.specs.Prelude.{ℕ, List, [], ◌∷◌, ◌++◌, Ok, Err, codes, decimal, Result}
+use Rattle.std.specs.Prelude.{ℕ, List, ◌++◌, Ok, Err, codes, decimal, Result}
 use Rattle.std.proofs.Math.Utf8.{encode}
 use Rattle.std.specs.Option.{unwrap_or}
 use Rattle.trace.specs.Signs.{sign_of}

@@ -6,7 +6,7 @@ use Rattle.pattern.specs.Words.{◌≺◌, ◌≼◌}
 use Rattle.automaton.specs.Machines.{dead, wrong, to, Machine, run}
 use Rattle.exploration.specs.Stage.{Table, Found, Absent, Done, Stage, Extends}
 use Rattle.exploration.specs.Verdicts.{More}
-use Rattle.pattern.proofs.Words.{transitive, longer, extend_same}
+use Rattle.pattern.proofs.Words.{transitive, extend_same}
 use Rattle.exploration.proofs.Cover.{next_run, clear}
 
 -- one letter more is done

@@ -1,5 +1,7 @@
 //! The exploration of all words in word order, and what it tells of a sheet: definitions and theorems.
 //! There is nothing to run: each function stands for a theorem, which its contract names.
+#![tactic(auto)]
+
 ghost use Rattle.exploration.specs.Cells.{WalksAreSound};
 ghost use Rattle.exploration.specs.Drawing.{DrawingIsRight, DrawnSheetsHold};
 ghost use Rattle.exploration.specs.Explore.{Explores};

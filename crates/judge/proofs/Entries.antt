@@ -1,15 +1,14 @@
 -- A complete table of the drawing machine draws a sheet: each letter leads to an entry, and the states suffice.
-use Rattle.std.proofs.Common.{◌≡◌, ℕ, zero, suc, ◌+◌, ◌*◌, ◌/◌, ◌<◌, ◌≤◌, Bool, true, false, ◌⊎◌, List, [], ◌∷◌, length, Some, None, Ok, Err, Option, Result, sym, refl, ap, ◌∙◌, subst, inl, inr, arith}
+use Rattle.std.proofs.Common.{◌≡◌, ℕ, zero, suc, ◌/◌, ◌<◌, ◌≤◌, Bool, true, false, ◌⊎◌, List, [], ◌∷◌, length, Some, None, Ok, Err, Option, Result, sym, refl, ◌∙◌, subst, inl, inr, arith}
 use Rattle.std.proofs.lemmas.Bool.{cases_lt}
 use Rattle.pattern.specs.Fits.{Fitting, fitting}
-use Rattle.pattern.specs.Images.{images_of}
 use Rattle.automaton.specs.Automata.{Automaton}
 use Rattle.automaton.specs.Machines.{Outcome, dead, wrong, to, run}
 use Rattle.automaton.specs.Judging.{Node, nowhere, grown}
 use Rattle.exploration.specs.Stage.{Table, Found}
 use Rattle.exploration.specs.Verdicts.{AllFound}
-use Rattle.exploration.specs.Links.{node_at, cells}
-use Rattle.exploration.specs.Drawing.{drawing, drawn_to, Leads, ReadOff, Suffices}
+use Rattle.exploration.specs.Links.{cells}
+use Rattle.exploration.specs.Drawing.{drawing, drawn_to, Leads, ReadOff}
 use Rattle.exploration.proofs.Cover.{step_at, before_wrong}
 use Rattle.exploration.proofs.Drawing.{drawing_is_right_lem}
 use Rattle.plan.specs.declared.Plan.{Plan}

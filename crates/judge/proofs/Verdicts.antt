@@ -1,11 +1,10 @@
 -- What an exploration of the judging machine tells of a plan and a sheet.
-use Rattle.std.proofs.Common.{◌≡◌, ℕ, ◌+◌, ◌*◌, ◌/◌, ◌<◌, ◌≤◌, List, ◌∷◌, reverse, length, set, subst, arith}
+use Rattle.std.proofs.Common.{◌≡◌, ℕ, ◌+◌, ◌<◌, ◌≤◌, List, ◌∷◌, reverse, length, set, subst, arith}
 use Rattle.pattern.specs.Fits.{fitting}
-use Rattle.pattern.specs.Images.{images_of}
 use Rattle.automaton.specs.Machines.{Machine, run}
 use Rattle.automaton.specs.Judging.{Node, judge}
 use Rattle.exploration.specs.Cells.{text_at}
-use Rattle.exploration.specs.Pairs.{FirstWrong, VerdictsTell}
+use Rattle.exploration.specs.Pairs.{VerdictsTell}
 use Rattle.exploration.proofs.Cover.{before_wrong}
 use Rattle.exploration.proofs.Pairs.{verdicts_are_right_lem}
 use Rattle.plan.specs.declared.Plan.{Plan}

@@ -1,4 +1,6 @@
 //! Judging a sheet for a plan over all words, and drawing the sheet of a plan.
+#![tactic(auto)]
+
 mod drawing;
 mod explore;
 mod groups;

@@ -1,5 +1,7 @@
 //! `loglist` lists the event log `log.bin`: a line for each cell, and a line with the counts of letters and of damaged cells. A log that
 //! cannot be opened is answered by `REFUSED` and the refusal's number.
+#![tactic(auto)]
+
 use console::input::read_or_empty;
 use console::listing::{cell_line, count_line};
 use console::refused::Refused;

@@ -1,5 +1,5 @@
 -- The check of a block, word by word. Assumes nothing.
-use Rattle.std.proofs.Common.{◌≡◌, ℕ, suc, ◌+◌, ◌*◌, ◌%◌, ◌^◌, List, sym, refl, ap, ◌∙◌, add_assoc, add-one, arith}
+use Rattle.std.proofs.Common.{◌≡◌, ℕ, ◌+◌, ◌*◌, ◌%◌, ◌^◌, List, sym, refl, ap, ◌∙◌, add_assoc, add-one}
 use native.Mathlib.Nat.{add-mod}
 use Rattle.logs.specs.Blocks.{word32, weighted, check_of}
 

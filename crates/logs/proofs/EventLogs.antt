@@ -1,5 +1,5 @@
 -- Where the cells of an event log stand in its bytes, and that a log that was judged block by block shows the row of its bytes. Assumes nothing.
-use Rattle.std.proofs.Common.{◌≡◌, ℕ, zero, suc, ◌+◌, ◌-◌, ◌*◌, ◌/◌, ◌%◌, ◌<◌, ◌≤◌, min, Bool, true, false, cond, ◌&&◌, ◌||◌, eqb, ◌≢◌, List, [], ◌∷◌, ◌++◌, length, get_or, take, drop, set, replicate, Ok, Err, sym, refl, ap, ◌∙◌, append-nil, add-zero, add-suc, suc-add, zero-add, arith, lit≤, get_or-drop, get_or-set_other, get_or-take, get_or-set_same, drop-drop, below_more}
+use Rattle.std.proofs.Common.{◌≡◌, ℕ, zero, suc, ◌+◌, ◌-◌, ◌*◌, ◌/◌, ◌%◌, ◌<◌, ◌≤◌, Bool, true, false, cond, eqb, ◌≢◌, List, ◌∷◌, ◌++◌, length, get_or, take, drop, set, replicate, Err, sym, refl, ap, ◌∙◌, append-nil, add-zero, add-suc, suc-add, zero-add, arith, lit≤, get_or-drop, get_or-set_other, get_or-take, get_or-set_same, drop-drop, below_more}
 use Rattle.std.proofs.lemmas.Bool.{cond_both, eq-eqb, ne_eqb}
 use Rattle.std.proofs.lemmas.Bool.Decides.{nat_tests}
 use Rattle.trace.specs.Cells.{shown, cell_at}

@@ -6,8 +6,7 @@
 --   verdict_of              what is found of a block that ought to have a certain number: sound, with its count, or else the first cause
 -- Assumes nothing.
 use Rattle.std.specs.Prelude.{ℕ, zero, suc, ◌+◌, ◌*◌, ◌%◌, ◌^◌, Bool, cond, ◌&&◌, ◌||◌, List, ◌==◌, nat_le, slice_index}
-use Rattle.logs.specs.declared.cause.Cause.{Cause}
-use Rattle.logs.specs.declared.cause.Cause.TheVariants.{NotASign, Check, Number, Header, Record}
+use Rattle.logs.specs.declared.cause.Cause.TheVariants.{Check, Number, Header}
 use Rattle.logs.specs.declared.block.Verdict.{Verdict}
 use Rattle.logs.specs.declared.block.Verdict.TheVariants.{Sound, Unsound}
 

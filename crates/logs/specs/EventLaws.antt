@@ -1,17 +1,16 @@
 -- Laws of what an event log shows, by which its answers are proved: the ruleset `events`, and that the row is lawful. Assumes nothing.
-use Rattle.std.specs.Prelude.{◌≡◌, ℕ, zero, suc, ◌+◌, ◌*◌, ◌/◌, ◌%◌, ◌<◌, ◌≤◌, min, true, cond, ◌&&◌, List, [], ◌∷◌, length, Ok, Err, Result, nat_lt, slice_index_or}
+use Rattle.std.specs.Prelude.{◌≡◌, ℕ, zero, suc, ◌+◌, ◌*◌, ◌/◌, ◌%◌, ◌<◌, ◌&&◌, List, length, Ok, Err, Result, nat_lt, slice_index_or}
 use Rattle.std.proofs.Math.Path.{refl, sym, ap}
 use Rattle.std.proofs.Common.{◌∙◌, add-zero, zero-add, suc-add, add-suc, not-suc-le-zero, le_of_suc-le-suc, arith}
 use Rattle.std.proofs.Math.Dec.{lit≤}
 use Rattle.std.proofs.lemmas.Bool.{cond_both, and_parts, ltb-true}
 use Rattle.trace.specs.Cells.{shown, cell_at, Below, Lettered, Lawful}
 use Rattle.logs.specs.declared.cause.Cause.TheVariants.{Record}
-use Rattle.logs.specs.declared.cause.EventDamage.{EventDamage}
 use Rattle.logs.specs.declared.block.Verdict.{Verdict}
 use Rattle.logs.specs.declared.block.Verdict.TheVariants.{Sound, Unsound}
 use Rattle.logs.specs.Blocks.{byte}
 use Rattle.logs.specs.Records.{letter_of, damage_of, record_cell}
-use Rattle.logs.specs.EventLogs.{record_at, cell_in, cell_of, list_from, shown_length, shown_events}
+use Rattle.logs.specs.EventLogs.{cell_in, cell_of, list_from, shown_length, shown_events}
 
 module _ {X : Type 0} where
   pub length_list_from : (s n : ℕ) (f : ℕ → X) → length (list_from s n f) ≡ n

@@ -13,7 +13,7 @@
 --   cells_of, cell_count     how many cells a block gives, and all blocks together
 --   WellSized              the question that opening asks: is the length a multiple of 512, at most 65,536?
 -- Assumes nothing.
-use Rattle.std.specs.Prelude.{◌≡◌, ℕ, zero, suc, ◌+◌, ◌*◌, ◌/◌, ◌%◌, ◌<◌, ◌≤◌, min, Bool, true, false, List, [], ◌∷◌, ◌++◌, length, take, drop, replicate, Ok, Err, Result, ◌==◌, slice_index_or}
+use Rattle.std.specs.Prelude.{◌≡◌, ℕ, zero, suc, ◌+◌, ◌*◌, ◌/◌, ◌%◌, ◌<◌, ◌≤◌, min, Bool, true, false, List, [], ◌∷◌, ◌++◌, length, take, drop, replicate, Err, Result, ◌==◌, slice_index_or}
 use Rattle.logs.specs.declared.cause.EventDamage.{EventDamage}
 use Rattle.logs.specs.declared.block.Verdict.{Verdict}
 use Rattle.logs.specs.declared.block.Verdict.TheVariants.{Sound, Unsound}

@@ -1,5 +1,5 @@
 -- A line is read if and only if its text is one of the grammar's, and there is room for its steps.
-use Rattle.std.proofs.Common.{◌≡◌, ℕ, zero, suc, ◌+◌, ◌-◌, ◌^◌, ◌<◌, ◌≤◌, Bool, true, false, cond, eqb, List, [], ◌∷◌, ◌++◌, length, get_or, sym, refl, ap, ◌∙◌, subst, append_assoc, append-nil, arith}
+use Rattle.std.proofs.Common.{◌≡◌, ℕ, zero, suc, ◌-◌, ◌^◌, ◌<◌, ◌≤◌, Bool, true, false, cond, eqb, List, [], ◌∷◌, ◌++◌, length, get_or, sym, refl, ap, ◌∙◌, subst, append_assoc, append-nil, arith}
 use Rattle.std.proofs.lemmas.Bool.{eqb-true}
 use Rattle.notation.specs.declared.LineFault.TheVariants.{TooManySteps, EmptyLine}
 use Rattle.notation.specs.Reading.{Found, found, faulty, step_of, Next, ended, step, wrong, as_next, next_of, at_last, goes_on_by, steps_of, filled, line_of}

@@ -6,6 +6,8 @@
 //!
 //! `specs/Reading` defines how a text is read, `specs/Grammar` which texts write which plan, and `specs/Refusals` why a
 //! text is refused. The first is executable, and the two theorems here say that it is right by the other two.
+#![tactic(auto)]
+
 ghost use Rattle.std.specs.Prelude.{◌≡◌};
 ghost use Rattle.notation.specs.Examples.{Examples};
 ghost use Rattle.notation.specs.Grammar.{ReadsWhatIsWritten};

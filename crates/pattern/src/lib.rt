@@ -1,5 +1,7 @@
 //! Letters, steps, patterns and their images, the hits of a row, fits of texts, words and their order: definitions and theorems.
 //! There is nothing to run: each function stands for a theorem, which its contract names.
+#![tactic(auto)]
+
 ghost use Rattle.pattern.specs.Rows.{FullListHolds};
 ghost use Rattle.pattern.specs.Laws.{PlansAreLawful};
 ghost use Rattle.pattern.specs.Words.{WordOrder};

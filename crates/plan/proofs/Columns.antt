@@ -1,5 +1,5 @@
 -- The steps of a pattern that admit a letter.
-use Rattle.std.proofs.Common.{◌≡◌, ℕ, suc, ◌+◌, ◌-◌, ◌*◌, ◌/◌, ◌%◌, ◌^◌, ◌<◌, ◌≤◌, Bool, false, cond, List, [], ◌∷◌, map, length, get_or, drop, sym, refl, ap, ◌∙◌, append-nil, arith}
+use Rattle.std.proofs.Common.{◌≡◌, ℕ, suc, ◌+◌, ◌*◌, ◌/◌, ◌%◌, ◌^◌, ◌<◌, ◌≤◌, Bool, false, cond, List, [], ◌∷◌, map, length, get_or, drop, sym, refl, ap, ◌∙◌, append-nil, arith}
 use lib.Bits.{bit_and, bit_or}
 use lib.Lanes.{mask_l}
 use Rattle.std.proofs.lemmas.List.{length-map, length-drop, get_or-map, drop_all, drop_more}

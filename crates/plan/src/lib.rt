@@ -13,6 +13,8 @@
 //! let aba = plan.extend(ba, 0);
 //! check_eq(plan.marks(aba), 1)?;
 //! ```
+#![tactic(auto)]
+
 ghost use Rattle.std.specs.Prelude.{◌≡◌, ◌≤◌, length};
 ghost use Rattle.std.specs.Simd.Lanes.{mask_l};
 ghost use Rattle.pattern.specs.Patterns.{Filled, shortest as shortest_of, longest as longest_of};

@@ -1,5 +1,5 @@
 -- A search that stands after some answers has answered the first hits of the full list, in order, and the end where they are all.
-use Rattle.std.proofs.Common.{◌≡◌, ℕ, zero, suc, ◌+◌, ◌-◌, ◌*◌, ◌<◌, ◌≤◌, List, [], ◌∷◌, ◌++◌, length, Some, None, Option, Result, sym, refl, ap, ◌∙◌, arith}
+use Rattle.std.proofs.Common.{◌≡◌, ℕ, suc, ◌+◌, ◌-◌, ◌*◌, ◌<◌, ◌≤◌, List, [], ◌∷◌, ◌++◌, length, Some, None, Option, Result, sym, refl, ap, ◌∙◌, arith}
 use Rattle.std.proofs.lemmas.List.{append_assoc, length-append}
 use Rattle.std.specs.List.{slice_get}
 use Rattle.trace.specs.Cells.{Lawful}
@@ -9,7 +9,6 @@ use Rattle.pattern.specs.Rows.{full, Lettered}
 use Rattle.pattern.specs.Rows.{Hit as Place}
 use Rattle.pattern.specs.Laws.{Wellformed}
 use Rattle.automaton.specs.Automata.{Automaton}
-use Rattle.automaton.specs.Wrong.{NoWrong}
 use Rattle.automaton.specs.Search.{Conf, start, Next, Nth, first, later, pending, Takes, Complete}
 use Rattle.automaton.specs.Search.{Reading as Reads}
 use Rattle.automaton.proofs.Search.{search_is_complete_lem}
@@ -18,7 +17,6 @@ use Rattle.plan.specs.Views.{letters_of, patterns_of}
 use Rattle.plan.proofs.Soundness.{sound}
 use Rattle.sheet.specs.Views.{automaton_of}
 use Rattle.reading.specs.declared.hits.Hit.{Hit}
-use Rattle.reading.specs.declared.states.Reading.{Reading}
 use Rattle.reading.specs.declared.states.Search.{Search}
 use Rattle.reading.specs.Cells.{letters_in}
 use Rattle.reading.specs.Hits.{placed, count_of, hits_in}
@@ -77,7 +75,7 @@ module _ (sheet : Automaton) (least : ℕ) (row : List (Option ℕ)) where
 well : (plan : Plan) → Wellformed (patterns_of plan)
 well plan = (sound plan).well
 
-module _ {T D : Type 0} {K : ℕ} {row : List (Result ℕ D)} (s : Search T D) (l : Lawful K row) {answers : List (Option Place)} (stands : Standing K row answers s) where
+module _ {T D : Type 0} {K : ℕ} {row : List (Result ℕ D)} (s : Search T) (l : Lawful K row) {answers : List (Option Place)} (stands : Standing K row answers s) where
   lettered : Lettered (letters_of s.reading.plan) (letters_in row)
   lettered = rw stands.lettered (all_letters l)
 

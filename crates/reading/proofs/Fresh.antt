@@ -1,5 +1,5 @@
 -- The plan and the sheet that a reading is set up with.
-use Rattle.std.proofs.Common.{◌≡◌, ℕ, zero, suc, ◌≤◌, Bool, true, false, cond, ◌&&◌, leb, List, [], get_or, replicate, None, Ok, Err, Result, sym, refl, ap, ◌∙◌, arith}
+use Rattle.std.proofs.Common.{◌≡◌, ℕ, zero, suc, ◌≤◌, Bool, true, false, cond, ◌&&◌, leb, List, [], get_or, replicate, None, Ok, Err, Result, refl, ap, arith}
 use Rattle.std.proofs.lemmas.Bool.{le-leb}
 use Rattle.pattern.specs.Patterns.{shortest}
 use Rattle.pattern.specs.Images.{images_of}
@@ -8,7 +8,6 @@ use Rattle.automaton.proofs.Wrong.{bare_sheets_are_right_lem}
 use Rattle.plan.specs.declared.Plan.{Plan}
 use Rattle.plan.specs.Views.{letters_of, patterns_of}
 use Rattle.sheet.specs.declared.Sheet.{Sheet}
-use Rattle.sheet.specs.declared.refusals.SheetRefusal.{SheetRefusal}
 use Rattle.sheet.specs.declared.refusals.SheetRefusal.TheVariants.{Counts}
 use Rattle.sheet.specs.Tables.{Table, single, arrow_from, arrow_of, entry_at}
 use Rattle.sheet.specs.Files.{ask, is_counted}

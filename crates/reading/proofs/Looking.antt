@@ -1,12 +1,11 @@
 -- Looking at one cell.
-use Rattle.std.proofs.Common.{◌≡◌, ℕ, zero, suc, ◌+◌, ◌-◌, ◌<◌, ◌≤◌, Bool, true, false, cond, List, [], ◌∷◌, length, is_some, Some, None, Ok, Err, Option, Result, sym, refl, ap, ◌∙◌, add-one, arith}
+use Rattle.std.proofs.Common.{◌≡◌, ℕ, zero, suc, ◌+◌, ◌-◌, ◌<◌, ◌≤◌, true, false, List, [], ◌∷◌, length, is_some, Some, None, Ok, Err, Option, Result, sym, refl, ap, add-one, arith}
 use Rattle.std.proofs.lemmas.Bool.{le-leb, lt-leb}
 use Rattle.std.specs.List.{AllByRecursion as All}
 use Rattle.trace.specs.declared.fault.Fault.{Fault}
-use Rattle.trace.specs.declared.fault.Fault.TheVariants.{NoSuchCell, Damaged}
 use Rattle.trace.specs.Cells.{cell_at, Below, Lawful}
 use Rattle.pattern.specs.Rows.{cell, Lettered}
-use Rattle.automaton.specs.Search.{Conf, counted, noticed, first_damaged}
+use Rattle.automaton.specs.Search.{first_damaged}
 use Rattle.reading.specs.declared.spot.Spot.{Spot}
 use Rattle.reading.specs.Cells.{letters_in}
 use Rattle.reading.specs.Spots.{conf_of, looked}

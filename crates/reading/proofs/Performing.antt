@@ -1,5 +1,5 @@
 -- Calls made in turn: one call more, and the first of all.
-use Rattle.std.proofs.Common.{◌≡◌, ℕ, suc, true, false, List, [], ◌∷◌, ◌++◌, length, is_err, IfOk, Ok, Err, Result, sym, refl, ap, ◌∙◌, subst, arith}
+use Rattle.std.proofs.Common.{◌≡◌, ℕ, true, List, [], ◌∷◌, ◌++◌, length, is_err, IfOk, Ok, Err, Result, sym, refl, ap, ◌∙◌, subst, arith}
 use Rattle.std.proofs.lemmas.List.{append_assoc, append-nil}
 use Rattle.plan.specs.Views.{letters_of, patterns_of}
 use Rattle.sheet.specs.Tables.{Table, single}
@@ -12,7 +12,7 @@ use Rattle.reading.specs.declared.sessions.Session.TheVariants.{Idle}
 use Rattle.reading.specs.Histories.{History, Order, blank, Kept, history_after}
 use Rattle.reading.specs.Promise.{Performed}
 use Rattle.reading.proofs.Promising.{promised}
-use Rattle.reading.specs.Sessions.{trace_of, Rests, Agrees, Promised, Continues}
+use Rattle.reading.specs.Sessions.{trace_of, Agrees, Promised, Continues}
 
 history_more : {D : Type 0} (before : History D) (calls : List Call) (given : List (Answer D)) (c : Call) (a : Answer D) → length given ≡ length calls → history_after before (calls ++ c ∷ []) (given ++ a ∷ []) ≡ (c, a) ∷ history_after before calls given
 history_more before [] [] c a e = refl
@@ -21,10 +21,10 @@ history_more before (d ∷ calls) [] c a e = absurd (omega arith)
 history_more before (d ∷ calls) (b ∷ given) c a e = history_more ((d, b) ∷ before) calls given c a (omega arith)
 
 module _ {T D : Type 0} (K : ℕ) (row : List (Result ℕ D)) where
-  pub continues_none : (s : Session T D) (given : List (Answer D)) → Continues K row s [] given s
+  pub continues_none : (s : Session T) (given : List (Answer D)) → Continues K row s [] given s
   continues_none s given h a = record { kept = λ k. k; stands = a }
 
-  pub continues_more : (s s₁ s₂ : Session T D) (calls : List Call) (given given' : List (Answer D)) (c : Call) (a : Answer D) → length given ≡ length calls → given' ≡ given ++ a ∷ [] → Continues K row s calls given s₁ → Promised K row s₁ c a s₂ → Continues K row s (calls ++ c ∷ []) given' s₂
+  pub continues_more : (s s₁ s₂ : Session T) (calls : List Call) (given given' : List (Answer D)) (c : Call) (a : Answer D) → length given ≡ length calls → given' ≡ given ++ a ∷ [] → Continues K row s calls given s₁ → Promised K row s₁ c a s₂ → Continues K row s (calls ++ c ∷ []) given' s₂
   continues_more s s₁ s₂ calls given given' c a n e so p h ag =
       let i = so h ag in
       let j = p (history_after h calls given) i.stands in
@@ -35,7 +35,7 @@ module _ {T D : Type 0} (K : ℕ) (row : List (Result ℕ D)) where
       }
 
 -- the same trace
-pub of_trace : {T D : Type 0} (K : ℕ) (row : T → List (Result ℕ D)) (t t' : T) (s s' : Session T D) (c : Call) (a : Answer D) → t ≡ t' → Promised K (row t) s c a s' → Promised K (row t') s c a s'
+pub of_trace : {T D : Type 0} (K : ℕ) (row : T → List (Result ℕ D)) (t t' : T) (s s' : Session T) (c : Call) (a : Answer D) → t ≡ t' → Promised K (row t) s c a s' → Promised K (row t') s c a s'
 of_trace K row t t' s s' c a e p = rw (sym e) p
 
 -- the calls that came, and those that are left
@@ -50,10 +50,10 @@ came_all came (c ∷ left) all e n = absurd (omega arith)
 blank_is : (K : ℕ) (plan : List (List ℕ)) (t : Table) → plan ≡ [] → t ≡ single K 0 → ◌≡◌ {A = Order} (blank K) (record { plan = plan; sheet = automaton_in t })
 blank_is K plan t e f = rw (e, f)
 
-pub fresh_agrees : {T D : Type 0} (K : ℕ) (row : List (Result ℕ D)) (r : Reading T D) → letters_of r.plan ≡ K → patterns_of r.plan ≡ [] → table_of r.sheet ≡ single K 0 → Agrees K row [] (Idle r)
+pub fresh_agrees : {T D : Type 0} (K : ℕ) (row : List (Result ℕ D)) (r : Reading T) → letters_of r.plan ≡ K → patterns_of r.plan ≡ [] → table_of r.sheet ≡ single K 0 → Agrees K row [] (Idle r)
 fresh_agrees K row r e f g = record { shut = refl; holds = blank_is K (patterns_of r.plan) (table_of r.sheet) f g; lettered = e }
 
-pub performed : {T D : Type 0} (K : ℕ) (row : T → List (Result ℕ D)) (trace : T) (s s' : Session T D) (calls : List Call) (given : List (Answer D)) → trace_of s ≡ trace → Agrees K (row trace) [] s → length given ≡ length calls → Continues K (row (trace_of s)) s calls given s' → Performed K (row trace) calls given
+pub performed : {T D : Type 0} (K : ℕ) (row : T → List (Result ℕ D)) (trace : T) (s s' : Session T) (calls : List Call) (given : List (Answer D)) → trace_of s ≡ trace → Agrees K (row trace) [] s → length given ≡ length calls → Continues K (row (trace_of s)) s calls given s' → Performed K (row trace) calls given
 performed {T} {D} K row trace s s' calls given is fresh all so =
     record { all = all; kept = kept; promise = promised K (row trace) (history_after [] calls given) kept }
   where

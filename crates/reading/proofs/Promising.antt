@@ -11,9 +11,8 @@ use Rattle.sheet.specs.declared.Sheet.{Sheet}
 use Rattle.judge.specs.declared.refusals.DrawRefusal.TheVariants.{Words, States}
 use Rattle.judge.specs.declared.refusals.DrawError.{DrawError}
 use Rattle.judge.specs.declared.refusals.DrawError.TheVariants.{Refused, NoMemory}
-use Rattle.judge.specs.declared.refusals.JudgeRefusal.{JudgeRefusal}
 use Rattle.judge.specs.declared.refusals.JudgeRefusal.TheVariants.{Letters, Shortest, Room, Pairs, Word}
-use Rattle.judge.specs.Judged.{Ready, PairsHeld, Faultless, ShowsWrong, Answers}
+use Rattle.judge.specs.Judged.{Ready, PairsHeld, Faultless}
 use Rattle.judge.specs.Drawings.{HasWords, StatesSuffice, DrawnFor, DrawAnswers, Draws}
 use Rattle.reading.specs.declared.hits.Hit.{Hit}
 use Rattle.reading.specs.declared.hits.Report.{Report as Account}
@@ -27,8 +26,8 @@ use Rattle.reading.specs.declared.calls.Answer.TheVariants.{Drawn, Judged, Cell,
 use Rattle.reading.specs.Cells.{letters_in}
 use Rattle.reading.specs.Hits.{place_of, placed, hits_in}
 use Rattle.reading.specs.Admission.{Admitted}
-use Rattle.reading.specs.Histories.{History, Order, Buffer, begun, searched, answers, in_turn, Verdict, Follows, Accounts, DueInTurn, DueIf, Due, Kept}
-use Rattle.reading.specs.Promise.{full_list, Admission, Admits, Promise, AfterEach}
+use Rattle.reading.specs.Histories.{History, Buffer, searched, answers, Verdict, Follows, Accounts, DueInTurn, DueIf, Due, Kept}
+use Rattle.reading.specs.Promise.{full_list, Admission, Promise, AfterEach}
 
 -- ---- places of a list
 

@@ -23,6 +23,6 @@ Admitted K plan sheet memory word after (Ok u) = (letters_of plan ≡ K) × Answ
 Admitted K plan sheet memory word after (Err Alphabet) = (letters_of plan ≢ K) × (after ≡ word)
 Admitted K plan sheet memory word after (Err (AboutSheet refusal)) = (letters_of plan ≡ K) × Answers plan sheet memory word after (Err refusal)
 
-abbrev pub Replaced : {T D : Type 0} → Plan → Sheet → Reading T D → Reading T D → Result (Unit {0}) AdmitRefusal → Type 0
+abbrev pub Replaced : {T : Type 0} → Plan → Sheet → Reading T → Reading T → Result (Unit {0}) AdmitRefusal → Type 0
 Replaced plan sheet before after (Ok u) = (after.trace ≡ before.trace) × (after.plan ≡ plan) × (after.sheet ≡ sheet)
 Replaced plan sheet before after (Err refusal) = after ≡ before

@@ -17,31 +17,31 @@ use Rattle.reading.specs.declared.sessions.Session.TheVariants.{Idle, Searching}
 use Rattle.reading.specs.Standing.{Standing}
 use Rattle.reading.specs.Histories.{History, Order, order, begun, admitted, searched, answers, Due, Kept, history_after}
 
-abbrev pub trace_of : {T D : Type 0} → Session T D → T
+abbrev pub trace_of : {T : Type 0} → Session T → T
 trace_of (Idle r) = r.trace
 trace_of (Searching s) = s.reading.trace
 
-pub record Rests {T D : Type 0} (K : ℕ) (is_begun : Bool) (last : Order) (r : Reading T D) : Type 0 where
+pub record Rests {T : Type 0} (K : ℕ) (is_begun : Bool) (last : Order) (r : Reading T) : Type 0 where
   pub shut : is_begun ≡ false
   pub holds : last ≡ order r.plan r.sheet
   pub lettered : letters_of r.plan ≡ K
 
-pub record Runs {T D : Type 0} (K : ℕ) (row : List (Result ℕ D)) (is_begun : Bool) (last used : Order) (told : List (Option Place)) (s : Search T D) : Type 0 where
+pub record Runs {T D : Type 0} (K : ℕ) (row : List (Result ℕ D)) (is_begun : Bool) (last used : Order) (told : List (Option Place)) (s : Search T) : Type 0 where
   pub opened : is_begun ≡ true
   pub holds : last ≡ order s.reading.plan s.reading.sheet
   pub uses : used ≡ order s.reading.plan s.reading.sheet
   pub stands : Standing K row told s
 
-abbrev pub Agrees : {T D : Type 0} → ℕ → List (Result ℕ D) → History D → Session T D → Type 0
+abbrev pub Agrees : {T D : Type 0} → ℕ → List (Result ℕ D) → History D → Session T → Type 0
 Agrees K row before (Idle r) = Rests K (begun before) (admitted K before) r
 Agrees K row before (Searching s) = Runs K row (begun before) (admitted K before) (searched K before) (answers before) s
 
-abbrev pub Promised : {T D : Type 0} → ℕ → List (Result ℕ D) → Session T D → Call → Answer D → Session T D → Type 0
+abbrev pub Promised : {T D : Type 0} → ℕ → List (Result ℕ D) → Session T → Call → Answer D → Session T → Type 0
 Promised {T} {D} K row session c a after = (h : History D) → Agrees K row h session → Due K row h c a × Agrees K row ((c, a) ∷ h) after
 
-pub record Continued {T D : Type 0} (K : ℕ) (row : List (Result ℕ D)) (before : History D) (calls : List Call) (given : List (Answer D)) (after : Session T D) : Type 0 where
+pub record Continued {T D : Type 0} (K : ℕ) (row : List (Result ℕ D)) (before : History D) (calls : List Call) (given : List (Answer D)) (after : Session T) : Type 0 where
   pub kept : Kept K row before → Kept K row (history_after before calls given)
   pub stands : Agrees K row (history_after before calls given) after
 
-abbrev pub Continues : {T D : Type 0} → ℕ → List (Result ℕ D) → Session T D → List Call → List (Answer D) → Session T D → Type 0
+abbrev pub Continues : {T D : Type 0} → ℕ → List (Result ℕ D) → Session T → List Call → List (Answer D) → Session T → Type 0
 Continues {T} {D} K row session calls given after = (h : History D) → Agrees K row h session → Continued K row h calls given after

@@ -21,12 +21,12 @@ pub data Reached (sheet : Automaton) (least : ℕ) (row : List (Option ℕ)) : L
   asked : {answers : List (Option Place)} {a : Option Place} {k k' : Conf} → Reached sheet least row answers k → Next sheet least row k a k' → Reached sheet least row (a ∷ answers) k'
 
 -- the plan is over the trace's K letters, the search is where the answers lead, and it has counted the hits among them
-pub record Standing {T D : Type 0} (K : ℕ) (row : List (Result ℕ D)) (answers : List (Option Place)) (s : Search T D) : Type 0 where
+pub record Standing {T D : Type 0} (K : ℕ) (row : List (Result ℕ D)) (answers : List (Option Place)) (s : Search T) : Type 0 where
   pub lettered : letters_of s.reading.plan ≡ K
   pub reached : Reached (automaton_of s.reading.sheet) (shortest (patterns_of s.reading.plan)) (letters_in row) answers (conf_of s.at)
   pub counted : s.hits ≡ length (hits_in answers)
 
 -- over this trace of K letters, with the plan without patterns and the sheet of one state without arrows; or memory was wanting
-abbrev pub Fresh : {T D E : Type 0} → ℕ → T → Result (Reading T D) E → Type 0
+abbrev pub Fresh : {T E : Type 0} → ℕ → T → Result (Reading T) E → Type 0
 Fresh K trace (Ok r) = (r.trace ≡ trace) × (letters_of r.plan ≡ K) × (patterns_of r.plan ≡ []) × (table_of r.sheet ≡ single K 0)
 Fresh K trace (Err e) = Unit {0}

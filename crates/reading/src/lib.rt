@@ -2,6 +2,8 @@
 //!
 //! [`Reading`] is idle, [`Search`] is begun: `begin` and `close` turn one into the other, so that a hit cannot be asked for before a
 //! begin or after a close.
+#![tactic(auto)]
+
 mod calls;
 pub mod cell_fault;
 mod driver;

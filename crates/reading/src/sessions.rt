@@ -1,10 +1,9 @@
 //! A reading at any moment.
 use crate::states::{Reading, Search};
-use trace::interface::Trace;
 
 /// A reading, outside a search or inside one.
 #[derive(Drop)]
-pub enum Session<T: Trace> {
+pub enum Session<T> {
     Idle(Reading<T>),
     Searching(Search<T>),
 }

@@ -10,7 +10,6 @@ ghost use Rattle.reading.specs.Spots.{Roomy};
 use crate::spot::Spot;
 use plan::Plan;
 use sheet::Sheet;
-use trace::interface::Trace;
 
 mod admit;
 mod calls;
@@ -18,7 +17,7 @@ mod next;
 
 /// A reading in which no search is begun. Its sheet has no wrong word for its plan.
 #[derive(Drop)]
-pub struct Reading<T: Trace> {
+pub struct Reading<T> {
     /// What is read.
     trace: T,
     /// What is looked for.
@@ -32,7 +31,7 @@ pub struct Reading<T: Trace> {
 
 /// A reading in which a search is begun.
 #[derive(Drop)]
-pub struct Search<T: Trace> {
+pub struct Search<T> {
     /// The reading that is searched.
     reading: Reading<T>,
     /// Where the search is.

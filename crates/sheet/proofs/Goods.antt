@@ -1,5 +1,5 @@
 -- States that a sheet may hold: the four facts about each as one, and how they last as states are added and changed.
-use Rattle.std.proofs.Common.{◌≡◌, ℕ, zero, suc, ◌+◌, ◌^◌, ◌<◌, ◌≤◌, Bool, true, false, cond, ◌⊎◌, List, [], ◌∷◌, ◌++◌, map, length, get_or, take, set, replicate, Ok, vec_items, vec_len, sym, refl, ap, ◌∙◌, subst, ⊎_elim, arith}
+use Rattle.std.proofs.Common.{◌≡◌, ℕ, zero, suc, ◌+◌, ◌^◌, ◌<◌, ◌≤◌, Bool, true, false, cond, List, [], ◌∷◌, ◌++◌, map, length, get_or, take, set, replicate, Ok, vec_items, vec_len, sym, refl, ap, ◌∙◌, subst, ⊎_elim, arith}
 use Rattle.std.proofs.lemmas.List.{length-take-le, get_or-replicate, get_or_default, get_or-map, get_or-set_same, get_or-set_other, length-set, map-set, get_or_past, take-replicate, map_push}
 use Rattle.std.proofs.lemmas.Bool.{cases_lt, cases_eq, le-leb}
 use Rattle.sheet.specs.declared.refusals.SheetRefusal.TheVariants.{Counts}

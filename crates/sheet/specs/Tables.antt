@@ -6,7 +6,7 @@
 --   arrow_from, marks_at, prefix_at   what the table answers about a state, also about one that does not exist
 --   has_state, has_places   whether a state, an arrow's two states and its letter exist
 --   grown, redirected     the table with one state more; with one arrow set
-use Rattle.std.specs.Prelude.{◌≡◌, ℕ, zero, suc, ◌^◌, ◌<◌, ◌≤◌, Bool, false, ◌&&◌, List, [], ◌∷◌, ◌++◌, length, set, replicate, Some, None, Option, nat_le, nat_lt, slice_index, slice_index_or, slice_set}
+use Rattle.std.specs.Prelude.{◌≡◌, ℕ, zero, suc, ◌^◌, ◌<◌, ◌≤◌, Bool, false, ◌&&◌, List, [], ◌∷◌, ◌++◌, length, replicate, Some, None, Option, nat_le, nat_lt, slice_index, slice_index_or, slice_set}
 use Rattle.std.specs.List.{AllByRecursion as All}
 
 pub record Entry : Type 0 where

@@ -1,4 +1,6 @@
 //! Sheets: the tables of states that a search follows, and their files.
+#![tactic(auto)]
+
 ghost use Rattle.std.specs.Prelude.{◌≤◌, vec_len};
 ghost use Rattle.sheet.specs.Tables.{most_letters, most_states};
 ghost use Rattle.sheet.specs.States.{Each, HasMarks, IsWide, IsInside, IsBare};

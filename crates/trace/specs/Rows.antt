@@ -8,10 +8,8 @@ use Rattle.std.proofs.Math.ListN.{length-append, length-map}
 use Rattle.std.specs.List.{AllByRecursion as All}
 use Rattle.std.proofs.ByRecursion.{All-take, All-drop, All-append}
 use Rattle.std.proofs.lemmas.List.{get_or-reverse, get_or-append_right, length-reverse}
-use Rattle.trace.specs.declared.fault.Fault.{Fault}
-use Rattle.trace.specs.declared.fault.Fault.TheVariants.{NoSuchCell, Damaged}
+use Rattle.trace.specs.declared.fault.Fault.TheVariants.{NoSuchCell}
 use Rattle.trace.specs.Cells.{shown, cell_at, Below, Lettered, Lawful}
-use Rattle.trace.specs.declared.fault.Origin.{Origin}
 use Rattle.trace.specs.declared.fault.Origin.TheVariants.{First, Second}
 use Rattle.trace.specs.Layers.{window, tagged, reanswer, join}
 

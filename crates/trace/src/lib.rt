@@ -2,6 +2,8 @@
 //!
 //! Rely on this: whatever stands behind [`interface::Trace`], a kind of log or any pile of layers over one, its three calls answer what
 //! its row says, for every number of a cell, and reading changes nothing. Code that is generic over `Trace` is proved once, against the row.
+#![tactic(auto)]
+
 pub mod fault;
 pub mod interface;
 pub mod join;

@@ -1,5 +1,4 @@
 -- All states, then all arrows.
-use Rattle.std.proofs.Common.{arith}
 use Rattle.pattern.specs.Fits.{fitting}
 use Rattle.plan.specs.Views.{letters_of, patterns_of}
 use Rattle.judge.proofs.Entries.{some_entry}

@@ -1,4 +1,4 @@
-use Rattle.std.proofs.Common.{ap, ◌∙◌, arith}
+use Rattle.std.proofs.Common.{◌∙◌, arith}
 use Rattle.logs.proofs.Blocks.{check_none, check_more, check_whole}
 use Rattle.logs.proofs.block.check_of.Goals as goal
 

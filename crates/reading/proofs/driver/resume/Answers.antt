@@ -23,7 +23,7 @@ loop-call-preserved g c =
 pub returns : goal.returns
 returns g c =
     let i = c.loop-call.invariant in
-    let all : c.loop-call.yielded ≡ vec_items c.args.calls = came_all _ c.loop-call.call-iterator.rest.items _ i.1 (sym c.loop-call.call-iterator.rest.ok.0 ∙ c.in-None.ensures.steps.0) ∙ c.into_iter-call-iterator.ensures.into_iter-gives.0 in
+    let all : c.loop-call.yielded ≡ vec_items c.args.calls = came_all _ c.loop-call.call-iterator.rest.items _ i.1 (sym c.loop-call.call-iterator.rest.ok.0 ∙ c.in-None.ensures.steps.0) ∙ c.into_iter-call-iterator.ensures.into_iter_gives.0 in
     record {
       all = i.2 ∙ ap length all;
       law = subst (λ (calls : List Call). Continues g.T.Trace.alphabet (g.T.Trace.row (trace_of c.args.session)) c.args.session calls (vec_items c.loop-call.answers) c.loop-call.session) all i.3;

@@ -1,5 +1,5 @@
 -- `begin`: where a search stands before any answer.
-use Rattle.std.proofs.Common.{◌≡◌, refl, ap, ◌∙◌}
+use Rattle.std.proofs.Common.{refl, ap, ◌∙◌}
 use Rattle.automaton.specs.Search.{start}
 use Rattle.reading.proofs.Answering.{reached_start}
 use Rattle.reading.proofs.states.Reading.begin.Goals as goal

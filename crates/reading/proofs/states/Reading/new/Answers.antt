@@ -1,5 +1,5 @@
 -- `new`: the plan without patterns is never refused, and a sheet without arrows has no wrong word for it.
-use Rattle.std.proofs.Common.{◌≡◌, sym, ap, ◌∙◌, arith}
+use Rattle.std.proofs.Common.{sym, ap, ◌∙◌, arith}
 use Rattle.plan.proofs.Reading.{emptied}
 use Rattle.sheet.specs.Tables.{Table}
 use Rattle.reading.proofs.Fresh.{never_refused, single_table, fresh_right, fresh_least}
@@ -14,4 +14,8 @@ pub invariant_of-result : goal.invariant_of-result
 invariant_of-result g c =
     let none = (emptied c.letters-letters.result _ c.in-Ok.ensures.answer).1 in
     let one = single_table c.letters-letters.result _ c.in-Ok-single.ensures.answer in
-    (fresh_right c.in-Ok.plan c.in-Ok-single.sheet c.letters-letters.result none one, (ap (λ (t : Table). t.letters) one ∙ sym c.in-Ok.ensures.letters, (fresh_least _ _ c.letters-letters.result none one, tt)))
+    record {
+      right = fresh_right c.in-Ok.plan c.in-Ok-single.sheet c.letters-letters.result none one;
+      lettered = ap (λ (t : Table). t.letters) one ∙ sym c.in-Ok.ensures.letters;
+      least = fresh_least _ _ c.letters-letters.result none one;
+    }

@@ -1,6 +1,6 @@
 -- `next`: each turn of the inner loop is a tick.
-use Rattle.std.proofs.Common.{◌≡◌, ◌+◌, ◌<◌, ◌≤◌, length, None, sym, refl, ap, ◌∙◌, arith}
-use Rattle.automaton.specs.Search.{Conf, left}
+use Rattle.std.proofs.Common.{None, sym, refl, ap, ◌∙◌, arith}
+use Rattle.automaton.specs.Search.{Conf}
 use Rattle.sheet.specs.Views.{automaton_of}
 use Rattle.reading.specs.Cells.{letters_in}
 use Rattle.reading.specs.Standing.{asked}
@@ -80,16 +80,16 @@ leaves g c =
       | then-places-test+in-Some+then-marks-ne0 w ↦
           let t = turn (g.T.Trace.lawful c.args.self.now.reading.trace) _ _ w.loop-at.at w.follow-to.result.0 c.len-len.ensures w.loop-at.invariant.0 c.if-least-eq0.false c.shortest-least.type_inv w.loop-at.invariant.2.roomy w.follow-to.ensures.looked in
           let e = sym w.in-Some.is ∙ w.follow-to.ensures.answer in
-          leaves_found _ _ _ _ w.loop-at.at w.step_at.result _ _ _ w.at-is w.found-is
+          leaves_found _ _ _ _ w.loop-at.at w.step-at.result _ _ _ w.at-is w.found-is
           (onward_trans c.places.invariant.1 w.loop-at.invariant.2)
-          (step_found _ _ _ w.loop-at.at w.follow-to.result.0 w.step_at.result t w.in-Some.q w.marks-marks.result e w.step_at.ensures.answer w.marks-marks.ensures.answer w.if-marks-ne0.true)
-          (step_room _ _ _ w.loop-at.at w.follow-to.result.0 w.step_at.result t w.in-Some.q e w.step_at.ensures.answer)
+          (step_found _ _ _ w.loop-at.at w.follow-to.result.0 w.step-at.result t w.in-Some.q w.marks-marks.result e w.step-at.ensures.answer w.marks-marks.ensures.answer w.if-marks-ne0.true)
+          (step_room _ _ _ w.loop-at.at w.follow-to.result.0 w.step-at.result t w.in-Some.q e w.step-at.ensures.answer)
     ]
 
 pub invariant_of-self : goal.invariant_of-self
 invariant_of-self g c =
     let l = leaves g (goal.at.invariant_of-self g c).Left-places in
-    (l.roomy, (omega (arith, l.more, c.args.self.now.few, c.count_of.ensures.answer), tt))
+    record { roomy = l.roomy; few = omega (arith, l.more, c.args.self.now.few, c.count_of.ensures.answer) }
 
 pub returns : goal.returns
 returns g c =
