@@ -71,7 +71,7 @@ def own_names(top):
         for line in lines:
             if line.startswith(("--", "use ")):
                 continue
-            signature = re.match(HEAD + "(" + NAME + r")(?:\s+\S+.*)?\s*:\s", line)
+            signature = re.match(HEAD + "(" + NAME + r")(?:\s+\S+.*)?\s*:(?:\s|$)", line)
             if signature and is_lemma_file(path) and "=" not in line.split(":")[0]:
                 names.add(signature[1])
             names.update(re.findall(r"\blet\s+(" + NAME + ")", line))
@@ -94,7 +94,7 @@ def spelled(name):
 def turned(text, table):
     def one(match):
         name = match[0]
-        if name not in table or (name in GENERATED and text[: match.start()].endswith("c.")):
+        if name not in table or (name in GENERATED and text[: match.start()].endswith(("c.", "w."))):
             return name
         return table[name]
 

@@ -107,7 +107,7 @@ module _ (plan : List (List ℕ)) (p : List ℕ) (some : 0 < length p) (fits : l
 
   pub placed_more : (firsts : List ℕ) (n from : ℕ) → length plan ≡ n → length (rests plan) ≡ from → n < length firsts → Firsts plan firsts → Firsts (plan ++ p ∷ []) (set firsts n from)
   unfolding first_step
-  placed_more firsts n from is-n is-from room placed j less =
+  placed_more firsts n from is_n is_from room placed j less =
       elim (cases_lt j (length plan)) [
         | inl l ↦
             let ne : j ≢ n = omega arith in
@@ -116,7 +116,7 @@ module _ (plan : List (List ℕ)) (p : List ℕ) (some : 0 < length p) (fits : l
         | inr l ↦
             let e : length plan ≡ j = omega (arith, length-append plan (p ∷ [])) in
             let f : n ≡ j = omega arith in
-            ap (λ (x : ℕ). get_or (set firsts n from) x 0) (sym f) ∙ get_or-set_same firsts n from 0 room ∙ sym is-from ∙ ap (λ (x : List (List ℕ)). length (rests x)) (sym (take_at plan (p ∷ []) j e))
+            ap (λ (x : ℕ). get_or (set firsts n from) x 0) (sym f) ∙ get_or-set_same firsts n from 0 room ∙ sym is_from ∙ ap (λ (x : List (List ℕ)). length (rests x)) (sym (take_at plan (p ∷ []) j e))
       ]
 
 -- what holds of every step still does

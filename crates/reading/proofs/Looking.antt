@@ -1,7 +1,7 @@
 -- Looking at one cell.
 use Rattle.std.proofs.Common.{◌≡◌, ℕ, zero, suc, ◌+◌, ◌-◌, ◌<◌, ◌≤◌, true, false, List, [], ◌∷◌, length, is_some, Some, None, Ok, Err, Option, Result, sym, refl, ap, add-one, arith}
 use Rattle.std.proofs.lemmas.Bool.{le-leb, lt-leb}
-use Rattle.std.specs.List.{AllByRecursion as All}
+use Rattle.std.specs.List.{AllByRecursion}
 use Rattle.trace.specs.declared.fault.Fault.{Fault}
 use Rattle.trace.specs.Cells.{cell_at, Below, Lawful}
 use Rattle.pattern.specs.Rows.{cell, Lettered}
@@ -30,7 +30,7 @@ module _ {D : Type 0} where
   pub short_letters : {K : ℕ} {row : List (Result ℕ D)} → Lawful K row → length (letters_in row) ≤ 16777216
   short_letters {row = row} l = omega (arith, l.short, length_letters row)
 
-  below_letters : (K : ℕ) (row : List (Result ℕ D)) → All (Below K) row → Lettered K (letters_in row)
+  below_letters : (K : ℕ) (row : List (Result ℕ D)) → AllByRecursion (Below K) row → Lettered K (letters_in row)
   below_letters K [] b i a e = absurd (let z : ◌≡◌ {A = ℕ} 0 1 = cc in omega arith)
   below_letters K (Ok x ∷ row) b zero a e = let z : x ≡ a = cc in omega (arith, b.0)
   below_letters K (Err d ∷ row) b zero a e = absurd (let z : ◌≡◌ {A = ℕ} 0 1 = cc in omega arith)

@@ -117,10 +117,10 @@ module _ (sheet : Automaton) (least : ℕ) (row : List (Option ℕ)) (at seen to
   told_some k (suc m) start h e = rw e
 
   pub step_found : (q m : ℕ) → Some q ≡ following sheet row (conf_of at) → conf_of to ≡ stepped sheet (conf_of seen) seen.fetches seen.damaged q → m ≡ sheet.marks q → (m ≡ 0 → ⊥) → Next sheet least row (conf_of at) (placed (Some (record { start = (to.p + 1) - to.o; end = to.p; marks = m }))) (conf_of to)
-  step_found q m e to_is m-is marked =
+  step_found q m e to_is m_is marked =
       let is = stepped_is q to_is in
       let t : tick sheet least row (conf_of at) ≡ told (stepped sheet (conf_of at) (counted (conf_of at)) (noticed row (conf_of at)) q) (sheet.marks q) = tick_went sheet row (conf_of at) least (Some q) turned.some turned.inside (sym e) in
-      let t₁ : tick sheet least row (conf_of at) ≡ told (conf_of to) m = rw (is, m-is) t in
+      let t₁ : tick sheet least row (conf_of at) ≡ told (conf_of to) m = rw (is, m_is) t in
       finds (t₁ ∙ told_some (conf_of to) m ((to.p + 1) - to.o) marked (rw (add-one to.p)))
 
 -- what `next` leaves: its answer, and where the search is then

@@ -23,11 +23,11 @@ module _ (sheet : Sheet) where
   counted : length (vec_items sheet.states) ≡ vec_len sheet.states
   counted = sym sheet.states.ok.0
 
-  pub entry-there :
+  pub entry_there :
       (q : ℕ) (s : State) → q < 65536 → place q < vec_len sheet.states → s ≡ get_or (vec_items sheet.states) (place q) s → entry_at (table_of sheet) q ≡ entry_in sheet.letters s
   unfolding entry_at
-  entry-there zero s h g e = absurd (omega (arith, sheet.counted))
-  entry-there (suc i) s h g e =
+  entry_there zero s h g e = absurd (omega (arith, sheet.counted))
+  entry_there (suc i) s h g e =
       let p : place (suc i) ≡ i = omega arith in
       let l : i < length (vec_items sheet.states) = omega (arith, counted) in
       get_or-map (entry_in sheet.letters) (vec_items sheet.states) i s blank l ∙ ap (entry_in sheet.letters) (sym (rw p at e))
@@ -40,9 +40,9 @@ module _ (sheet : Sheet) where
       get_or_past (map (entry_in sheet.letters) (vec_items sheet.states)) i blank (simp length-map (omega (arith, counted)))
 
 -- the arrows by letters that are below the number of letters are all arrows
-pub front-arrow :
+pub front_arrow :
     (letters : ℕ) (arrows : List ℕ) (a : ℕ) → ((b : ℕ) → letters ≤ b → get_or arrows b 0 ≡ 0) → get_or (take letters arrows) a 0 ≡ get_or arrows a 0
-front-arrow letters arrows a bare =
+front_arrow letters arrows a bare =
     ⊎_elim
     (λ (h : a < letters). get_or-take letters arrows a 0 h)
     (λ (h : letters ≤ a). get_or_past (take letters arrows) a 0 (simp length-take (omega arith)) ∙ sym (bare a h))
@@ -50,14 +50,14 @@ front-arrow letters arrows a bare =
 
 module _ (sheet : Sheet) (q a : ℕ) where
   -- the code's arrow, from the state that stands at its place
-  pub arrow-there :
+  pub arrow_there :
       (s : State) → q < 65536 → place q < vec_len sheet.states → s ≡ get_or (vec_items sheet.states) (place q) s → arrow_from (table_of sheet) q a ≡ arrow_of (get_or s.arrows a 0)
-  arrow-there s h g e =
-      let there = entry-there sheet q s h g e in
+  arrow_there s h g e =
+      let there = entry_there sheet q s h g e in
       let bare : (b : ℕ) → sheet.letters ≤ b → get_or s.arrows b 0 ≡ 0 =
       λ b l. ap (λ (x : State). get_or x.arrows b 0) (e ∙ get_or_default (vec_items sheet.states) (place q) s absent (omega (arith, counted sheet))) ∙ sheet.bare (place q) b l
       in
-      ap (λ (x : Entry). arrow_of (get_or x.arrows a 0)) there ∙ ap arrow_of (front-arrow sheet.letters s.arrows a bare)
+      ap (λ (x : Entry). arrow_of (get_or x.arrows a 0)) there ∙ ap arrow_of (front_arrow sheet.letters s.arrows a bare)
 
   pub arrow_past : q < 65536 → vec_len sheet.states ≤ place q → None ≡ arrow_from (table_of sheet) q a
   arrow_past h g = sym (ap (λ (x : Entry). arrow_of (get_or x.arrows a 0)) (entry_past sheet q h g))
@@ -67,7 +67,7 @@ module _ (sheet : Sheet) (q a : ℕ) where
   arrow_beyond h l =
       ⊎_elim
       (λ (g : place q < vec_len sheet.states).
-      sym (arrow-there (get_or (vec_items sheet.states) (place q) absent) h g (get_or_default (vec_items sheet.states) (place q) absent _ (omega (arith, counted sheet)))
+      sym (arrow_there (get_or (vec_items sheet.states) (place q) absent) h g (get_or_default (vec_items sheet.states) (place q) absent _ (omega (arith, counted sheet)))
       ∙ ap arrow_of (sheet.bare (place q) a (omega (arith, sheet.few)))))
       (λ (g : vec_len sheet.states ≤ place q). arrow_past h g)
       (cases_lt (place q) (vec_len sheet.states))

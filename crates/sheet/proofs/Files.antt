@@ -1,6 +1,6 @@
 -- Reading a file and writing a table are inverse.
 use Rattle.std.proofs.Common.{◌≡◌, ℕ, zero, suc, ◌+◌, ◌-◌, ◌*◌, ◌/◌, ◌%◌, ◌^◌, ◌<◌, ◌≤◌, Bool, true, false, cond, ◌&&◌, eqb, leb, List, [], ◌∷◌, ◌++◌, map, length, get_or, take, drop, is_ok, Ok, Err, Decides, Result, sym, refl, ap, ◌∙◌, subst, suc-mul, zero-mul, arith}
-use Rattle.std.specs.List.{flat_map, AllByRecursion as All}
+use Rattle.std.specs.List.{flat_map, AllByRecursion}
 use Rattle.std.proofs.ByRecursion.{All-take, All-drop, All-from_get_or, Decides-by_and}
 use Rattle.std.proofs.lemmas.List.{length-append, length-take, length-drop, length-map, take_at, drop_at, take-append-drop, nil_from_length}
 use Rattle.std.proofs.lemmas.Bool.{false≢true, and_parts, and_from, leb-true, le-leb, eqb-true, eq-eqb}
@@ -21,10 +21,10 @@ four_back n h =
     let top : n / 16777216 % 256 ≡ n / 65536 / 256 = omega arith in
     four_sum n (n / 256) (n / 65536) (n / 16777216 % 256) (n % 256) (n / 256 % 256) (n / 65536 % 256) (omega arith) (omega arith) (omega arith)
 
-four-forth :
+four_forth :
     (a b c d : ℕ) → a < 256 → b < 256 → c < 256 → d < 256
     → four_bytes (a * 16777216 + b * 65536 + c * 256 + d) ≡ a ∷ b ∷ c ∷ d ∷ []
-four-forth a b c d ha hb hc hd =
+four_forth a b c d ha hb hc hd =
     let n : ℕ = a * 16777216 + b * 65536 + c * 256 + d in
     let p : n / 16777216 % 256 ≡ a = omega arith in
     let q : n / 65536 % 256 ≡ b = omega arith in
@@ -54,7 +54,7 @@ entry_back letters states e l = rebuilt e _ _ (four_back e.marks l.marks) (bit_b
 pub length_entry : (letters states : ℕ) (e : Entry) → LawfulEntry letters states e → length (entry_bytes e) ≡ entry_size letters
 length_entry letters states e l = let a = l.arrows in omega arith
 
-pub decides_up_to : (most : ℕ) (bytes : List ℕ) → Decides (up_to most bytes) (All (λ b. b ≤ most) bytes)
+pub decides_up_to : (most : ℕ) (bytes : List ℕ) → Decides (up_to most bytes) (AllByRecursion (λ b. b ≤ most) bytes)
 unfolding up_to
 decides_up_to most bytes =
     Decides-by_and (λ b. leb b most) (λ b. b ≤ most) (up_to most) (λ b. (leb-true b most, le-leb b most)) refl (λ _ _. refl) bytes
@@ -63,15 +63,15 @@ pub entry_sound : (letters states : ℕ) (e : Entry) → LawfulEntry letters sta
 entry_sound letters states e l = and_from _ _ (bit_small e.prefix) ((decides_up_to states e.arrows).1 l.inside)
 
 -- a part of a file, with bytes for its marks, is what its state is written as
-pub part-back :
+pub part_back :
     (states : ℕ) (part : List ℕ) → 5 ≤ length part → Bytes (take 4 part) → sound_entry states part ≡ true → entry_bytes (entry_of part) ≡ part
-part-back states [] h b s = absurd (omega arith)
-part-back states (x ∷ []) h b s = absurd (omega arith)
-part-back states (x ∷ y ∷ []) h b s = absurd (omega arith)
-part-back states (x ∷ y ∷ z ∷ []) h b s = absurd (omega arith)
-part-back states (x ∷ y ∷ z ∷ w ∷ []) h b s = absurd (omega arith)
-part-back states (x ∷ y ∷ z ∷ w ∷ p ∷ arrows) h b s =
-    let f = four-forth x y z w b.0 b.1.0 b.1.1.0 b.1.1.1.0 in
+part_back states [] h b s = absurd (omega arith)
+part_back states (x ∷ []) h b s = absurd (omega arith)
+part_back states (x ∷ y ∷ []) h b s = absurd (omega arith)
+part_back states (x ∷ y ∷ z ∷ []) h b s = absurd (omega arith)
+part_back states (x ∷ y ∷ z ∷ w ∷ []) h b s = absurd (omega arith)
+part_back states (x ∷ y ∷ z ∷ w ∷ p ∷ arrows) h b s =
+    let f = four_forth x y z w b.0 b.1.0 b.1.1.0 b.1.1.1.0 in
     let q = bit_forth p (leb-true p 1 (and_parts (leb p 1) (up_to states arrows) s).0) in
     cc
 
@@ -94,58 +94,58 @@ cut_more size zero bytes h = absurd (omega arith)
 cut_more size (suc n) bytes h = let e : suc n - 1 ≡ n = omega arith in rw e
 
 module _ (letters states : ℕ) where
-  pub length-entries :
-      (es : List Entry) → All (LawfulEntry letters states) es → length (flat_map entry_bytes es) ≡ length es * entry_size letters
-  length-entries [] l = sym (zero-mul (entry_size letters))
-  length-entries (e ∷ es) l =
+  pub length_entries :
+      (es : List Entry) → AllByRecursion (LawfulEntry letters states) es → length (flat_map entry_bytes es) ≡ length es * entry_size letters
+  length_entries [] l = sym (zero-mul (entry_size letters))
+  length_entries (e ∷ es) l =
       let h = length_entry letters states e l.0 in
-      let t = length-entries es l.1 in
+      let t = length_entries es l.1 in
       let m = suc-mul (length es) (entry_size letters) in
       length-append (entry_bytes e) (flat_map entry_bytes es) ∙ omega arith
 
-  pub cut-entries :
-      (es : List Entry) → All (LawfulEntry letters states) es → cut (entry_size letters) (length es) (flat_map entry_bytes es) ≡ map entry_bytes es
+  pub cut_entries :
+      (es : List Entry) → AllByRecursion (LawfulEntry letters states) es → cut (entry_size letters) (length es) (flat_map entry_bytes es) ≡ map entry_bytes es
   unfolding cut
-  cut-entries [] l = refl
-  cut-entries (e ∷ es) l =
+  cut_entries [] l = refl
+  cut_entries (e ∷ es) l =
       let h = length_entry letters states e l.0 in
-      rw (take_at (entry_bytes e) (flat_map entry_bytes es) (entry_size letters) h, drop_at (entry_bytes e) (flat_map entry_bytes es) (entry_size letters) h, cut-entries es l.1)
+      rw (take_at (entry_bytes e) (flat_map entry_bytes es) (entry_size letters) h, drop_at (entry_bytes e) (flat_map entry_bytes es) (entry_size letters) h, cut_entries es l.1)
 
-  pub entries_back : (es : List Entry) → All (LawfulEntry letters states) es → map entry_of (map entry_bytes es) ≡ es
+  pub entries_back : (es : List Entry) → AllByRecursion (LawfulEntry letters states) es → map entry_of (map entry_bytes es) ≡ es
   entries_back [] l = refl
   entries_back (e ∷ es) l =
       let h = entry_back letters states e l.0 in
       let t = entries_back es l.1 in
       cc
 
-  pub entries_sound : (es : List Entry) → All (LawfulEntry letters states) es → sound states (map entry_bytes es) ≡ true
+  pub entries_sound : (es : List Entry) → AllByRecursion (LawfulEntry letters states) es → sound states (map entry_bytes es) ≡ true
   unfolding sound
   entries_sound [] l = refl
   entries_sound (e ∷ es) l = and_from _ _ (entry_sound letters states e l.0) (entries_sound es l.1)
 
   -- the parts of a body of bytes are written as they were read
-  pub parts-back :
+  pub parts_back :
       (n : ℕ) (body : List ℕ) → length body ≡ n * entry_size letters → Bytes body → sound states (cut (entry_size letters) n body) ≡ true
       → flat_map entry_bytes (map entry_of (cut (entry_size letters) n body)) ≡ body
   unfolding cut sound
-  parts-back zero body h b s = sym (nil_from_length body (h ∙ zero-mul (entry_size letters)))
-  parts-back (suc n) body h b s =
+  parts_back zero body h b s = sym (nil_from_length body (h ∙ zero-mul (entry_size letters)))
+  parts_back (suc n) body h b s =
       let size : ℕ = entry_size letters in
       let m = suc-mul n size in
       let part = take size body in
       let rest = drop size body in
       let p = and_parts (sound_entry states part) (sound states (cut size n rest)) s in
-      let here : entry_bytes (entry_of part) ≡ part = part-back states part (simp length-take (omega arith)) (All-take (λ x. x < 256) 4 part (All-take (λ x. x < 256) size body b)) p.0 in
-      let more = parts-back n rest (simp length-drop (omega arith)) (All-drop (λ x. x < 256) size body b) p.1 in
+      let here : entry_bytes (entry_of part) ≡ part = part_back states part (simp length-take (omega arith)) (All-take (λ x. x < 256) 4 part (All-take (λ x. x < 256) size body b)) p.0 in
+      let more = parts_back n rest (simp length-drop (omega arith)) (All-drop (λ x. x < 256) size body b) p.1 in
       ap (λ (xs : List ℕ). xs ++ flat_map entry_bytes (map entry_of (cut size n rest))) here ∙ ap (λ (xs : List ℕ). part ++ xs) more ∙ take-append-drop size body
 
   -- the states of a body of bytes are lawful
-  pub parts-lawful :
+  pub parts_lawful :
       (n : ℕ) (body : List ℕ) → length body ≡ n * entry_size letters → Bytes body → sound states (cut (entry_size letters) n body) ≡ true
-      → All (LawfulEntry letters states) (map entry_of (cut (entry_size letters) n body))
+      → AllByRecursion (LawfulEntry letters states) (map entry_of (cut (entry_size letters) n body))
   unfolding cut sound
-  parts-lawful zero body h b s = tt
-  parts-lawful (suc n) body h b s =
+  parts_lawful zero body h b s = tt
+  parts_lawful (suc n) body h b s =
       let size : ℕ = entry_size letters in
       let m = suc-mul n size in
       let part = take size body in
@@ -153,7 +153,7 @@ module _ (letters states : ℕ) where
       let p = and_parts (sound_entry states part) (sound states (cut size n rest)) s in
       let byte = byte_at part (All-take (λ x. x < 256) size body b) in (
         record { marks = let x = byte 0 in let y = byte 1 in let z = byte 2 in let w = byte 3 in omega arith; arrows = simp (length-drop, length-take) (omega arith); inside = (decides_up_to states (drop 5 part)).0 (and_parts (leb (get_or part 4 0) 1) (up_to states (drop 5 part)) p.0).1 },
-        parts-lawful n rest (simp length-drop (omega arith)) (All-drop (λ x. x < 256) size body b) p.1,
+        parts_lawful n rest (simp length-drop (omega arith)) (All-drop (λ x. x < 256) size body b) p.1,
       )
 
 -- ---- the questions
@@ -226,10 +226,10 @@ head_is (x ∷ y ∷ z ∷ w ∷ body) h = refl
 pub body_long : (bytes : List ℕ) → Accepted bytes → length (drop 4 bytes) ≡ get_or bytes 0 0 * entry_size (get_or bytes 1 0)
 body_long bytes a = let l = a.long in simp length-drop (omega arith)
 
-pub file-is :
+pub file_is :
     (bytes : List ℕ) (t : Table) → Accepted bytes → length t.states ≡ get_or bytes 0 0 → t.letters ≡ get_or bytes 1 0 → t.shortest ≡ get_or bytes 2 0 → flat_map entry_bytes t.states ≡ drop 4 bytes → bytes ≡ file_of t
 unfolding file_of
-file-is bytes t a n k m j = let h = head_is bytes a.head in let e = a.edition in cc
+file_is bytes t a n k m j = let h = head_is bytes a.head in let e = a.edition in cc
 
 pub count_of_parts : (bytes : List ℕ) → length (table_in bytes).states ≡ get_or bytes 0 0
 count_of_parts bytes = length-map (parts bytes) entry_of ∙ length_cut (entry_size (get_or bytes 1 0)) (get_or bytes 0 0) (drop 4 bytes)
@@ -245,14 +245,14 @@ read_lawful bytes b a =
       letters = (c.letter, c.few);
       states = (omega arith, omega arith);
       entries =
-          subst (λ (m : ℕ). All (LawfulEntry (get_or bytes 1 0) m) (table_in bytes).states) (sym n)
-          (parts-lawful (get_or bytes 1 0) (get_or bytes 0 0) (get_or bytes 0 0) (drop 4 bytes) (body_long bytes a) (All-drop (λ x. x < 256) 4 bytes b) a.is_sound);
+          subst (λ (m : ℕ). AllByRecursion (LawfulEntry (get_or bytes 1 0) m) (table_in bytes).states) (sym n)
+          (parts_lawful (get_or bytes 1 0) (get_or bytes 0 0) (get_or bytes 0 0) (drop 4 bytes) (body_long bytes a) (All-drop (λ x. x < 256) 4 bytes b) a.is_sound);
     }
 
 read_written : (bytes : List ℕ) → Bytes bytes → Accepted bytes → bytes ≡ file_of (table_in bytes)
 read_written bytes b a =
-    file-is bytes (table_in bytes) a (count_of_parts bytes) refl refl
-    (parts-back (get_or bytes 1 0) (get_or bytes 0 0) (get_or bytes 0 0) (drop 4 bytes) (body_long bytes a) (All-drop (λ x. x < 256) 4 bytes b) a.is_sound)
+    file_is bytes (table_in bytes) a (count_of_parts bytes) refl refl
+    (parts_back (get_or bytes 1 0) (get_or bytes 0 0) (get_or bytes 0 0) (drop 4 bytes) (body_long bytes a) (All-drop (λ x. x < 256) 4 bytes b) a.is_sound)
 
 retabled : (t : Table) (es : List Entry) → es ≡ t.states → ◌≡◌ {A = Table} (record { letters = t.letters; shortest = t.shortest; states = es }) t
 retabled t es e = rw e
@@ -260,12 +260,12 @@ retabled t es e = rw e
 module _ (t : Table) (l : Lawful t) where
   parts_of_file : parts (file_of t) ≡ map entry_bytes t.states
   unfolding file_of
-  parts_of_file = cut-entries t.letters (length t.states) t.states l.entries
+  parts_of_file = cut_entries t.letters (length t.states) t.states l.entries
 
   file_accepted : Accepted (file_of t)
   unfolding file_of
   file_accepted =
-      let n = length-entries t.letters (length t.states) t.states l.entries in
+      let n = length_entries t.letters (length t.states) t.states l.entries in
       record {
         head = omega arith;
         edition = refl;

@@ -10,7 +10,7 @@ use Rattle.sheet.specs.States.{absent, Each, Good}
 use Rattle.sheet.specs.Tables.{Entry, Table, blank, plain, single, grown, pointed, redirected, LawfulEntry, Lawful}
 use Rattle.sheet.specs.Views.{entry_in, table_of}
 use Rattle.sheet.proofs.Places.{count_is}
-use Rattle.std.specs.List.{AllByRecursion as All}
+use Rattle.std.specs.List.{AllByRecursion}
 use Rattle.std.proofs.ByRecursion.{All-take, All-map, All-from_get_or}
 
 -- ---- what holds of every state
@@ -60,9 +60,9 @@ pub good_more : (letters m n : ℕ) (s : State) → m ≤ n → Good letters m s
 good_more letters m n s h g =
     record { marks = g.marks; wide = g.wide; inside = λ a. let i = g.inside a in omega arith; bare = g.bare }
 
-pub good-push :
+pub good_push :
     (letters m n : ℕ) (xs : List State) (y : State) → m ≤ n → Each (Good letters m) xs → Good letters n y → Each (Good letters n) (xs ++ y ∷ [])
-good-push letters m n xs y h g p =
+good_push letters m n xs y h g p =
     each_push (Good letters n) (absent_good letters n) xs y (λ k. good_more letters m n (get_or xs k absent) h (g k)) p
 
 -- ---- the states of a sheet
@@ -72,25 +72,25 @@ sheet_good sheet k =
     record { marks = sheet.marked k; wide = sheet.wide k; inside = sheet.inside k; bare = sheet.bare k }
 
 -- a state without arrows was added, or not
-pub good-pushed :
+pub good_pushed :
     (b : Bool) (letters m n marks : ℕ) (prefix : Bool) (xs ys : List State)
     → marks < 2 ^ 32
     → ys ≡ cond b (xs ++ record { marks = marks; prefix = prefix; arrows = replicate 32 0 } ∷ []) xs
     → n ≡ cond b (m + 1) m
     → Each (Good letters m) xs
     → Each (Good letters n) ys
-good-pushed true letters m n marks prefix xs ys h e f g =
-    rw e (good-push letters m n xs _ (omega arith) g (plain_good letters n marks prefix h))
-good-pushed false letters m n marks prefix xs ys h e f g = rw (e, f) g
+good_pushed true letters m n marks prefix xs ys h e f g =
+    rw e (good_push letters m n xs _ (omega arith) g (plain_good letters n marks prefix h))
+good_pushed false letters m n marks prefix xs ys h e f g = rw (e, f) g
 
-pub pushed-is :
+pub pushed_is :
     (letters shortest marks : ℕ) (prefix : Bool) (xs ys : List State)
     → letters ≤ 32
     → ys ≡ xs ++ record { marks = marks; prefix = prefix; arrows = replicate 32 0 } ∷ []
     → ◌≡◌ {A = Table}
     (record { letters = letters; shortest = shortest; states = map (entry_in letters) ys })
     (grown (record { letters = letters; shortest = shortest; states = map (entry_in letters) xs }) marks prefix)
-pushed-is letters shortest marks prefix xs ys h e =
+pushed_is letters shortest marks prefix xs ys h e =
     ap
     (λ (es : List Entry). record { letters = letters; shortest = shortest; states = es })
     (ap (map (entry_in letters)) e ∙ map_push (entry_in letters) xs _ ∙ ap (λ (x : Entry). map (entry_in letters) xs ++ x ∷ []) (plain_entry letters marks prefix h))
@@ -119,21 +119,21 @@ good_turned letters n s a to h l t g =
       bare = λ b k. get_or-set_other s.arrows a b to 0 (λ e. omega arith) ∙ g.bare b k;
     }
 
-pub good-set :
+pub good_set :
     (letters n : ℕ) (xs : List State) (i : ℕ) (s : State) (a to : ℕ)
     → i < length xs → s ≡ get_or xs i s → a < letters → letters ≤ 32 → to ≤ n
     → Each (Good letters n) xs → Each (Good letters n) (set xs i (turned s a to))
-good-set letters n xs i s a to h e k l t g =
+good_set letters n xs i s a to h e k l t g =
     each_set (Good letters n) (absent_good letters n) xs i (turned s a to) g (good_turned letters n s a to k l t (subst (Good letters n) (sym (e ∙ get_or_default xs i s absent h)) (g i)))
 
-pub turned-is :
+pub turned_is :
     (letters shortest from i : ℕ) (xs : List State) (s : State) (a to : ℕ)
     → i + 1 ≡ from → i < length xs → s ≡ get_or xs i s
     → ◌≡◌ {A = Table}
     (record { letters = letters; shortest = shortest; states = map (entry_in letters) (set xs i (turned s a to)) })
     (redirected (record { letters = letters; shortest = shortest; states = map (entry_in letters) xs }) from a to)
-turned-is letters shortest zero i xs s a to p h e = absurd (omega arith)
-turned-is letters shortest (suc j) i xs s a to p h e =
+turned_is letters shortest zero i xs s a to p h e = absurd (omega arith)
+turned_is letters shortest (suc j) i xs s a to p h e =
     let q : j ≡ i = omega arith in
     let there = get_or-map (entry_in letters) xs i s blank h ∙ ap (entry_in letters) (sym e) in
     let new = ap (λ (ys : List ℕ). record { marks = s.marks; prefix = s.prefix; arrows = ys }) (take_set_in letters s.arrows a to) in
@@ -145,10 +145,10 @@ turned-is letters shortest (suc j) i xs s a to p h e =
 
 -- ---- the sheet of one state
 
-pub single-is :
+pub single_is :
     (letters shortest : ℕ) (items : List State) → 1 ≤ letters → letters ≤ 32 → items ≡ absent ∷ []
     → ask (is_counted 1 letters) Counts (Ok (single letters shortest)) ≡ Ok (record { letters = letters; shortest = shortest; states = map (entry_in letters) items })
-single-is letters shortest items h g e =
+single_is letters shortest items h g e =
     let p = plain_entry letters 0 false g in
     let x = le-leb 1 letters h in
     let y = le-leb letters 32 g in
@@ -172,7 +172,7 @@ sheet_lawful sheet =
     let counted = sheet.counted in
     let started = sheet.started in
     let Law : Entry → Type 0 = LawfulEntry sheet.letters (vec_len sheet.states) in
-    let each : All (λ s. Law (entry_in sheet.letters s)) (vec_items sheet.states) =
+    let each : AllByRecursion (λ s. Law (entry_in sheet.letters s)) (vec_items sheet.states) =
     All-from_get_or (λ s. Law (entry_in sheet.letters s)) (vec_items sheet.states) absent
     (λ i _. lawful_entry sheet.letters (vec_len sheet.states) (get_or (vec_items sheet.states) i absent) sheet.few (sheet_good sheet i))
     in
@@ -180,6 +180,6 @@ sheet_lawful sheet =
       letters = (sheet.some, sheet.few);
       states = (omega arith, omega arith);
       entries =
-          subst (λ (m : ℕ). All (LawfulEntry sheet.letters m) (table_of sheet).states) (sym n)
+          subst (λ (m : ℕ). AllByRecursion (LawfulEntry sheet.letters m) (table_of sheet).states) (sym n)
           (All-map Law (entry_in sheet.letters) (vec_items sheet.states) each);
     }

@@ -28,10 +28,10 @@ module _ (letters : ℕ) (part : List ℕ) (long : length part ≡ entry_size le
       ext_get_or 0 (take letters arrows) (drop 5 part) (m ∙ sym n)
       (λ i h. get_or-take letters arrows i 0 (omega arith) ∙ read.there i (omega arith))
 
-  pub state-entry :
+  pub state_entry :
       (front : List ℕ) (marks : ℕ) → front ≡ take 5 part → marks ≡ get_or front 0 0 * 16777216 + get_or front 1 0 * 65536 + get_or front 2 0 * 256 + get_or front 3 0
       → entry_in letters (record { marks = marks; prefix = eqb (get_or front 4 0) 1; arrows = arrows }) ≡ entry_of part
-  state-entry front marks f m =
+  state_entry front marks f m =
       let at : (i : ℕ) → i < 5 → get_or front i 0 ≡ get_or part i 0 = λ i h. ap (λ (xs : List ℕ). get_or xs i 0) f ∙ get_or-take 5 part i 0 h in
       let a = at 0 (omega arith) in
       let b = at 1 (omega arith) in

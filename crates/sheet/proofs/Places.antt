@@ -11,9 +11,9 @@ module _ (sheet : Sheet) where
   count_is = length-map (vec_items sheet.states) (entry_in sheet.letters) ∙ sym sheet.states.ok.0
 
 module _ (sheet : Sheet) (from a to : ℕ) where
-  pub places-are :
+  pub places_are :
       (n : ℕ) → n ≡ vec_len sheet.states → has_places (table_of sheet) from a to ≡ (has_state n from && (has_state n to && ltb a sheet.letters))
-  places-are n e =
+  places_are n e =
       ap (λ (m : ℕ). has_state m from && (has_state m to && ltb a sheet.letters)) (count_is sheet ∙ sym e)
 
   pub record Exist : Type 0 where
@@ -25,7 +25,7 @@ module _ (sheet : Sheet) (from a to : ℕ) where
   pub exist : true ≡ has_places (table_of sheet) from a to → Exist
   exist h =
       let n = vec_len sheet.states in
-      let p = and_parts (has_state n from) (has_state n to && ltb a sheet.letters) (sym (h ∙ places-are n refl)) in
+      let p = and_parts (has_state n from) (has_state n to && ltb a sheet.letters) (sym (h ∙ places_are n refl)) in
       let f = and_parts (leb 1 from) (leb from n) p.0 in
       let q = and_parts (has_state n to) (ltb a sheet.letters) p.1 in
       let t = and_parts (leb 1 to) (leb to n) q.0 in

@@ -13,7 +13,7 @@ use Rattle.sheet.specs.Views.{entry_in, table_of}
 use Rattle.sheet.specs.declared.Sheet.{Sheet}
 use Rattle.sheet.specs.declared.refusals.SheetRefusal.TheVariants.{Buffer}
 use Rattle.sheet.proofs.Places.{count_is}
-use Rattle.sheet.proofs.Files.{length-entries, written_read}
+use Rattle.sheet.proofs.Files.{length_entries, written_read}
 use Rattle.sheet.proofs.Goods.{sheet_lawful}
 use Rattle.std.proofs.lemmas.Bool.{le-leb, lt-leb, cond-true, cond-false}
 
@@ -26,12 +26,12 @@ pasted_front : (d s : List ℕ) (at n : ℕ) → paste d at s n ≡ paste d at (
 pasted_front d s at n = ap (λ (xs : List ℕ). take at d ++ xs ++ drop (at + n) d) (sym (take-take n n s (omega arith)))
 
 -- the marks, the prefix mark and the arrows, one after the other, are the state
-pub state-written :
+pub state_written :
     (d : List ℕ) (at letters : ℕ) (s : State)
     → at ≤ length d → letters ≤ length s.arrows
     → paste (paste (paste d at (four_bytes s.marks) 4) (at + 4) (cond s.prefix 1 0 ∷ []) 1) (at + 5) s.arrows letters
     ≡ paste d at (entry_bytes (entry_in letters s)) (entry_size letters)
-state-written d at letters s h w =
+state_written d at letters s h w =
     ap (λ (b : List ℕ). paste b (at + 5) s.arrows letters) (paste-paste d at (four_bytes s.marks) (cond s.prefix 1 0 ∷ []) 4 1 refl refl h)
     ∙ pasted_front (paste d at (four_bytes s.marks ++ cond s.prefix 1 0 ∷ []) 5) s.arrows (at + 5) letters
     ∙ paste-paste d at (four_bytes s.marks ++ cond s.prefix 1 0 ∷ []) (take letters s.arrows) 5 letters refl (sym (length-take-le letters s.arrows w)) h
@@ -63,11 +63,11 @@ module _ (letters : ℕ) (items : List State) where
         ap (λ (k : ℕ). length (front k)) (sym (add-one i)) ∙ sym (ap length more) ∙ length-append (front i) (entry_bytes (entry_in letters s)) ∙ omega arith
 
     -- one state more is written
-    pub written-more :
+    pub written_more :
         (d b : List ℕ) (i : ℕ) (s : State) → 4 ≤ length d → i < length items → s ≡ get_or items i s
         → b ≡ paste d 4 (front i) (i * entry_size letters)
         → paste b (4 + i * entry_size letters) (entry_bytes (entry_in letters s)) (entry_size letters) ≡ paste d 4 (front (i + 1)) ((i + 1) * entry_size letters)
-    written-more d b i s h l e so_far =
+    written_more d b i s h l e so_far =
         let m : i * entry_size letters + entry_size letters ≡ (i + 1) * entry_size letters = sym (ap (λ (k : ℕ). k * entry_size letters) (add-one i) ∙ suc-mul i (entry_size letters)) in
         let w : IsWide s = subst IsWide (sym (e ∙ get_or_default items i s absent l)) (wide i) in
         ap (λ (x : List ℕ). paste x (4 + i * entry_size letters) (entry_bytes (entry_in letters s)) (entry_size letters)) so_far
@@ -84,18 +84,18 @@ module _ (sheet : Sheet) where
   pub file_long : length (file_of (table_of sheet)) ≡ 4 + vec_len sheet.states * entry_size sheet.letters
   unfolding file_of
   file_long =
-      let n = length-entries sheet.letters (length (table_of sheet).states) (table_of sheet).states (sheet_lawful sheet).entries in
+      let n = length_entries sheet.letters (length (table_of sheet).states) (table_of sheet).states (sheet_lawful sheet).entries in
       let m : length (table_of sheet).states * entry_size sheet.letters ≡ vec_len sheet.states * entry_size sheet.letters = ap (λ (k : ℕ). k * entry_size sheet.letters) (count_is sheet) in
       omega arith
 
   -- the head and all states are the file
-  pub file-written :
+  pub file_written :
       (d h b : List ℕ) (count : ℕ) → count ≡ vec_len sheet.states
       → h ≡ paste d 0 (count ∷ sheet.letters ∷ sheet.shortest ∷ 1 ∷ []) 4
       → b ≡ paste h 4 (front sheet.letters (vec_items sheet.states) count) (count * entry_size sheet.letters)
       → b ≡ file_of (table_of sheet) ++ drop (length (file_of (table_of sheet))) d
   unfolding file_of
-  file-written d h b count e f g =
+  file_written d h b count e f g =
       let items = vec_items sheet.states in
       let size : ℕ = entry_size sheet.letters in
       let n : count ≡ length items = e ∙ sheet.states.ok.0 in

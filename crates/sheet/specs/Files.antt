@@ -2,7 +2,7 @@
 --   file_of                the bytes of a table's file
 --   read_file              the table of a file, or the first question that is answered by no
 use Rattle.std.specs.Prelude.{◌≡◌, ℕ, zero, suc, ◌+◌, ◌*◌, ◌/◌, ◌%◌, ◌<◌, Bool, true, false, cond, ◌&&◌, ◌↔◌, List, [], ◌∷◌, ◌++◌, map, length, take, drop, Ok, Err, Result, ◌==◌, nat_le, slice_index}
-use Rattle.std.specs.List.{flat_map, AllByRecursion as All}
+use Rattle.std.specs.List.{flat_map, AllByRecursion}
 use Rattle.sheet.specs.declared.refusals.SheetRefusal.{SheetRefusal}
 use Rattle.sheet.specs.declared.refusals.SheetRefusal.TheVariants.{Head, Edition, Counts, Length, Content, Buffer}
 use Rattle.sheet.specs.Tables.{Entry, Table, Lawful, most_letters}
@@ -95,7 +95,7 @@ read_file bytes =
 
 -- the numbers are bytes
 abbrev pub Bytes : List ℕ → Type 0
-Bytes bytes = All (λ b. b < 256) bytes
+Bytes bytes = AllByRecursion (λ b. b < 256) bytes
 
 -- a file is accepted exactly if it is what a lawful table is written as, and then it reads as that table
 abbrev pub ReadingInvertsWriting : Type 0

@@ -7,7 +7,7 @@
 --   has_state, has_places   whether a state, an arrow's two states and its letter exist
 --   grown, redirected     the table with one state more; with one arrow set
 use Rattle.std.specs.Prelude.{◌≡◌, ℕ, zero, suc, ◌^◌, ◌<◌, ◌≤◌, Bool, false, ◌&&◌, List, [], ◌∷◌, ◌++◌, length, replicate, Some, None, Option, nat_le, nat_lt, slice_index, slice_index_or, slice_set}
-use Rattle.std.specs.List.{AllByRecursion as All}
+use Rattle.std.specs.List.{AllByRecursion}
 
 pub record Entry : Type 0 where
   -- bit j is set where the words that lead here are images of pattern j (an accepting state)
@@ -33,12 +33,12 @@ most_states = 255
 pub record LawfulEntry (letters states : ℕ) (e : Entry) : Type 0 where
   pub marks : e.marks < 2 ^ 32
   pub arrows : length e.arrows ≡ letters
-  pub inside : All (λ a. a ≤ states) e.arrows
+  pub inside : AllByRecursion (λ a. a ≤ states) e.arrows
 
 pub record Lawful (t : Table) : Type 0 where
   pub letters : (1 ≤ t.letters) × (t.letters ≤ most_letters)
   pub states : (1 ≤ length t.states) × (length t.states ≤ most_states)
-  pub entries : All (LawfulEntry t.letters (length t.states)) t.states
+  pub entries : AllByRecursion (LawfulEntry t.letters (length t.states)) t.states
 
 -- ---- what a table answers
 

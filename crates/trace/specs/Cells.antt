@@ -6,7 +6,7 @@
 --   Lawful    from 1 to 32 letters, every letter of the row one of them, at most 2 ^ 24 cells
 -- Assumes nothing.
 use Rattle.std.specs.Prelude.{ℕ, zero, suc, ◌<◌, ◌≤◌, List, [], ◌∷◌, length, Ok, Err, Result}
-use Rattle.std.specs.List.{AllByRecursion as All}
+use Rattle.std.specs.List.{AllByRecursion}
 use Rattle.trace.specs.declared.fault.Fault.{Fault}
 use Rattle.trace.specs.declared.fault.Fault.TheVariants.{NoSuchCell, Damaged}
 
@@ -24,7 +24,7 @@ Below n (Ok l) = l < n
 Below n (Err d) = Unit {0}
 
 abbrev pub Lettered : {D : Type 0} → ℕ → List (Result ℕ D) → Type 0
-Lettered n xs = All (Below n) xs
+Lettered n xs = AllByRecursion (Below n) xs
 
 pub record Lawful {D : Type 0} (n : ℕ) (xs : List (Result ℕ D)) : Type 0 where
   pub some_letter : 1 ≤ n

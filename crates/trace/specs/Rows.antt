@@ -5,7 +5,7 @@ use Rattle.std.proofs.Common.{sym, ◌∙◌, zero-add, suc-add, not-suc-le-zero
 use Rattle.std.proofs.Math.Path.{ap}
 use mathlib.Core.List.{reverse_aux}
 use Rattle.std.proofs.Math.ListN.{length-append, length-map}
-use Rattle.std.specs.List.{AllByRecursion as All}
+use Rattle.std.specs.List.{AllByRecursion}
 use Rattle.std.proofs.ByRecursion.{All-take, All-drop, All-append}
 use Rattle.std.proofs.lemmas.List.{get_or-reverse, get_or-append_right, length-reverse}
 use Rattle.trace.specs.declared.fault.Fault.TheVariants.{NoSuchCell}
@@ -64,11 +64,11 @@ module _ {D : Type 0} where
   letter_below n (Err d ∷ xs) (suc i) l h e = letter_below n xs i l h.1 e
 
 module _ {X : Type 0} (P : X → Type 0) where
-  all_reverse_aux : (xs ys : List X) → All P xs → All P ys → All P (reverse_aux xs ys)
+  all_reverse_aux : (xs ys : List X) → AllByRecursion P xs → AllByRecursion P ys → AllByRecursion P (reverse_aux xs ys)
   all_reverse_aux [] ys h k = k
   all_reverse_aux (x ∷ xs) ys h k = all_reverse_aux xs (x ∷ ys) h.1 (h.0, k)
 
-  pub all_reverse : (xs : List X) → All P xs → All P (reverse xs)
+  pub all_reverse : (xs : List X) → AllByRecursion P xs → AllByRecursion P (reverse xs)
   all_reverse xs h = all_reverse_aux xs [] h tt
 
 pub length_window : {X : Type 0} (f t : ℕ) (xs : List X) → length (window f t xs) ≡ min t (length xs) - f

@@ -1,11 +1,11 @@
 use Rattle.std.proofs.Common.{sym, ap, arith}
 use Rattle.sheet.specs.Tables.{Entry}
-use Rattle.sheet.proofs.Entries.{entry-there, entry_past}
+use Rattle.sheet.proofs.Entries.{entry_there, entry_past}
 use Rattle.sheet.proofs.Sheet.marks.Goals as goal
 
 pub returns-then-place-len : goal.returns-then-place-len
 returns-then-place-len c =
-    record { answer = sym (ap (λ (x : Entry). x.marks) (entry-there c.args.self.now c.args.state c.index.result.now (omega arith) (omega arith) c.index.ensures)) }
+    record { answer = sym (ap (λ (x : Entry). x.marks) (entry_there c.args.self.now c.args.state c.index.result.now (omega arith) (omega arith) c.index.ensures)) }
 
 pub returns-else-place-len : goal.returns-else-place-len
 returns-else-place-len c =

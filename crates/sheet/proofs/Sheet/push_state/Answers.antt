@@ -2,7 +2,7 @@ use Rattle.std.proofs.Common.{List, map, is_ok, vec_items, vec_len, refl, ap, ar
 use Rattle.std.proofs.lemmas.List.{length-map}
 use Rattle.sheet.specs.Views.{entry_in}
 use Rattle.sheet.specs.declared.states.State.{State}
-use Rattle.sheet.proofs.Goods.{sheet_good, good-pushed, pushed-is}
+use Rattle.sheet.proofs.Goods.{sheet_good, good_pushed, pushed_is}
 use Rattle.sheet.proofs.Sheet.push_state.Goals as goal
 
 pub returns-then-len-eq-MOST_STATES : goal.returns-then-len-eq-MOST_STATES
@@ -13,7 +13,7 @@ pub invariant_of-self : goal.invariant_of-self
 invariant_of-self c =
     let sheet = c.args.self.now in
     let g =
-    good-pushed (is_ok c.push.result) sheet.letters (vec_len sheet.states) (vec_len c.push.new.self) c.args.marks c.args.prefix (vec_items sheet.states) (vec_items c.push.new.self)
+    good_pushed (is_ok c.push.result) sheet.letters (vec_len sheet.states) (vec_len c.push.new.self) c.args.marks c.args.prefix (vec_items sheet.states) (vec_items c.push.new.self)
     (omega arith)
     (search rules)
     c.push.ensures.len
@@ -37,7 +37,7 @@ returns-in-Ok c =
       answer = (
         simp length-map (omega (arith, sheet.states.ok.0)),
         simp length-map (search rules),
-        pushed-is sheet.letters sheet.shortest c.args.marks c.args.prefix (vec_items sheet.states) (vec_items c.push.new.self) sheet.few (search rules),
+        pushed_is sheet.letters sheet.shortest c.args.marks c.args.prefix (vec_items sheet.states) (vec_items c.push.new.self) sheet.few (search rules),
       );
     }
 

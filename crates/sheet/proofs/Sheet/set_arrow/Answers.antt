@@ -1,5 +1,5 @@
 use Rattle.std.proofs.Common.{◌-◌, vec_items, vec_len, arith}
-use Rattle.sheet.proofs.Goods.{sheet_good, good-set, turned-is}
+use Rattle.sheet.proofs.Goods.{sheet_good, good_set, turned_is}
 use Rattle.sheet.proofs.Places.{exist}
 use Rattle.sheet.proofs.Sheet.set_arrow.Goals as goal
 
@@ -18,7 +18,7 @@ invariant_of-self c =
     let sheet = c.args.self.now in
     let e = exist sheet c.args.from c.args.letter c.args.to c.if-not-has_places.ensures.answer in
     let g =
-    good-set sheet.letters (vec_len sheet.states) (vec_items sheet.states) (c.args.from - 1) c.index.result.now c.args.letter c.args.to
+    good_set sheet.letters (vec_len sheet.states) (vec_items sheet.states) (c.args.from - 1) c.index.result.now c.args.letter c.args.to
     (omega (arith, sheet.states.ok.0))
     c.index.ensures
     e.letter_in_lem
@@ -44,7 +44,7 @@ returns c =
     record {
       answer = c.if-not-has_places.ensures.answer;
       held =
-          turned-is sheet.letters sheet.shortest c.args.from (c.args.from - 1) (vec_items sheet.states) c.index.result.now c.args.letter c.args.to
+          turned_is sheet.letters sheet.shortest c.args.from (c.args.from - 1) (vec_items sheet.states) c.index.result.now c.args.letter c.args.to
           (omega arith)
           (omega (arith, sheet.states.ok.0))
           c.index.ensures;

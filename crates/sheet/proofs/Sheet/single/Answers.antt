@@ -1,7 +1,7 @@
 use Rattle.std.proofs.Common.{◌≡◌, ℕ, List, [], ◌∷◌, vec_items, vec_len, sym, subst, arith, rules}
 use Rattle.sheet.specs.declared.states.State.{State}
 use Rattle.sheet.specs.States.{Each, absent, Good}
-use Rattle.sheet.proofs.Goods.{each_none, each_push, absent_good, single-is}
+use Rattle.sheet.proofs.Goods.{each_none, each_push, absent_good, single_is}
 use Rattle.sheet.proofs.Sheet.single.Goals as goal
 use Rattle.sheet.proofs.Sheet.single.Goals.{After-push_reserved}
 
@@ -31,4 +31,4 @@ invariant_of-result c =
     }
 
 pub returns : goal.returns
-returns c = record { answer = single-is c.args.letters c.args.shortest (vec_items c.push_reserved.new.self) (omega arith) (omega arith) (items (goal.at.returns c).After-push_reserved) }
+returns c = record { answer = single_is c.args.letters c.args.shortest (vec_items c.push_reserved.new.self) (omega arith) (omega arith) (items (goal.at.returns c).After-push_reserved) }

@@ -5,7 +5,7 @@ use Rattle.sheet.specs.States.{Good, absent}
 use Rattle.sheet.specs.Files.{entry_size, entry_bytes, file_of}
 use Rattle.sheet.specs.Views.{entry_in, table_of}
 use Rattle.sheet.proofs.Goods.{sheet_good, sheet_lawful}
-use Rattle.sheet.proofs.Writes.{front, written-more, file_long, file-written, no_room, room, read_again}
+use Rattle.sheet.proofs.Writes.{front, written_more, file_long, file_written, no_room, room, read_again}
 use Rattle.sheet.proofs.Sheet.write.Goals as goal
 use Rattle.sheet.proofs.Sheet.write.Goals.{After-entry_size-size}
 
@@ -50,7 +50,7 @@ loop-i-preserved c =
     let i = c.loop-i.i in
     c.put_state.ensures.after
     ∙ ap (λ (n : ℕ). paste c.loop-i.buffer (4 + i * n) (entry_bytes (entry_in sheet.letters c.index.result.now)) (entry_size sheet.letters)) c.entry_size-size.ensures.answer
-    ∙ written-more sheet.letters (vec_items sheet.states) sheet.wide sheet.few c.put.new.buffer c.loop-i.buffer i c.index.result.now
+    ∙ written_more sheet.letters (vec_items sheet.states) sheet.wide sheet.few c.put.new.buffer c.loop-i.buffer i c.index.result.now
     (omega (arith, c.if-buffer-long.false, c.put.auto.buffer)) (omega (arith, sheet.states.ok.0)) c.index.ensures c.loop-i.invariant
 
 pub returns : goal.returns
@@ -61,7 +61,7 @@ returns c =
     let l = long (goal.at.returns c).After-entry_size-size in
     let ended : c.loop-i.i ≡ c.len-count.result = omega arith in
     let all = c.loop-i.invariant ∙ ap (λ (n : ℕ). paste c.put.new.buffer 4 (front sheet.letters (vec_items sheet.states) n) (n * entry_size sheet.letters)) ended in
-    let file = file-written sheet d c.put.new.buffer c.loop-i.buffer c.len-count.result c.len-count.ensures c.put.ensures.after all in
+    let file = file_written sheet d c.put.new.buffer c.loop-i.buffer c.len-count.result c.len-count.ensures c.put.ensures.after all in
     let r = room t d (omega (arith, l)) in
     record {
       answer = ap Ok l ∙ r.0;

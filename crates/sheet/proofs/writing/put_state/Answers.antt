@@ -1,6 +1,6 @@
 use Rattle.std.proofs.Common.{ℕ, ◌+◌, cond, List, [], ◌∷◌, length, ap, ◌∙◌, arith}
 use lib.Seq.{paste}
-use Rattle.sheet.proofs.Writes.{byte_of, state-written}
+use Rattle.sheet.proofs.Writes.{byte_of, state_written}
 use Rattle.sheet.proofs.writing.put_state.Goals as goal
 
 pub returns : goal.returns
@@ -15,5 +15,5 @@ returns c =
           (c.put-2.ensures.after
           ∙ ap (λ (n : ℕ). paste c.put.new.buffer (at + 4) (n ∷ []) 1) (c.from.ensures ∙ byte_of s.prefix)
           ∙ ap (λ (b : List ℕ). paste b (at + 4) (cond s.prefix 1 0 ∷ []) 1) (c.put.ensures.after ∙ ap (λ (xs : List ℕ). paste d at xs (length xs)) c.to_be_bytes.ensures))
-          ∙ state-written d at c.args.letters s (omega arith) c.requires.wide;
+          ∙ state_written d at c.args.letters s (omega arith) c.requires.wide;
     }
