@@ -1,4 +1,6 @@
 //! Trials: the library on examples, each worked out by hand or made another way than the library makes it.
+#![tactic(auto)]
+
 pub mod blocks;
 #[cfg(test)]
 mod event_logs;
