@@ -1,6 +1,6 @@
 -- The lines of a listing: what is said of a cell, by what asking for it answers, and how it is written.
---   note_of, line_of, counts_of             what the lines are made from
---   damage_text, cell_text, count_text     their texts, each character by its code
+--   note_of, line_of, counts_of          what the lines are made from
+--   damage_text, cell_text, count_text   their texts, each character by its code
 -- Assumes nothing.
 use Rattle.std.specs.Prelude.{ℕ, List, ◌++◌, Ok, Err, codes, decimal, Result}
 use Rattle.std.proofs.Math.Utf8.{encode}

@@ -2,8 +2,8 @@
 --   bytes 0 and 1 the block's number; byte 2 its count; byte 3 zero; bytes 4 to 507 its 126 records of 4 bytes; bytes 508 to 511 its check
 --   byte, word16, word32   the number at an offset of a block
 --   weighted b n           the first n words of the block, word w (from 0) times 2 w + 1, summed up
---   check_of                what the check has to be: 1 and that sum of the 127 words before it, modulo 2 ^ 32
---   verdict_of              what is found of a block that ought to have a certain number: sound, with its count, or else the first cause
+--   check_of               what the check has to be: 1 and that sum of the 127 words before it, modulo 2 ^ 32
+--   verdict_of             what is found of a block that ought to have a certain number: sound, with its count, or else the first cause
 -- Assumes nothing.
 use Rattle.std.specs.Prelude.{ℕ, zero, suc, ◌+◌, ◌*◌, ◌%◌, ◌^◌, Bool, cond, ◌&&◌, ◌||◌, List, ◌==◌, nat_le, slice_index}
 use Rattle.logs.specs.declared.cause.Cause.TheVariants.{Check, Number, Header}

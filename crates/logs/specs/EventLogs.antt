@@ -4,13 +4,13 @@
 --   cells_from place left   the cells of `left` blocks, the first of them at this place
 --   event_row               the row of a log of these bytes
 -- What a log shows, whatever it holds: bytes, what was found of each of their blocks, and a number of cells. (`open` makes that the row of its bytes.)
---   cell_in place n v       cell n of the block at this place, of which v was found
---   cell_of i               cell i of the log: every block but the last gives 126 cells, so that its block is i / 126
---   list_from s n f         f s, f (s + 1), .., n of them
+--   cell_in place n v            cell n of the block at this place, of which v was found
+--   cell_of i                    cell i of the log: every block but the last gives 126 cells, so that its block is i / 126
+--   list_from s n f              f s, f (s + 1), .., n of them
 --   shown_length, shown_events   so many cells, but no more than the bytes have room for; and these cells
 -- What opening a log finds out, and answers.
---   verdict_at bytes k      what is found of block k
---   cells_of, cell_count     how many cells a block gives, and all blocks together
+--   verdict_at bytes k     what is found of block k
+--   cells_of, cell_count   how many cells a block gives, and all blocks together
 --   WellSized              the question that opening asks: is the length a multiple of 512, at most 65,536?
 -- Assumes nothing.
 use Rattle.std.specs.Prelude.{◌≡◌, ℕ, zero, suc, ◌+◌, ◌*◌, ◌/◌, ◌%◌, ◌<◌, ◌≤◌, min, Bool, true, false, List, [], ◌∷◌, ◌++◌, length, take, drop, replicate, Err, Result, ◌==◌, slice_index_or}

@@ -1,7 +1,7 @@
 -- A record of an event log: 4 bytes, a minute of the day (2 bytes, 0 to 1439), a code (0 to 7: off, on, dim, key accepted, key refused,
 -- join, leave, self check) and a level (0 to 255).
---   letter_of code level        the letter of an event: four for each code, by the quarter that its level lies in
---   record_cell at m n c l      the cell of the record of these four bytes, at the offset `at` of the log
+--   letter_of code level     the letter of an event: four for each code, by the quarter that its level lies in
+--   record_cell at m n c l   the cell of the record of these four bytes, at the offset `at` of the log
 -- (A byte is a level; for numbers that are no bytes the range is asked for all the same.)
 -- Assumes nothing.
 use Rattle.std.specs.Prelude.{ℕ, ◌+◌, ◌*◌, ◌/◌, cond, ◌&&◌, Ok, Err, Result, nat_lt}

@@ -1,8 +1,8 @@
 -- The row of a sign log.
 --   sign k b       the cell of the byte b at the offset k: `A` to `Z` are the letters 0 to 25, any other byte is damage
---   sign_cells k    the cells of bytes that begin at the offset k
---   sign_row        the row of a log of these bytes
---   shown_signs     what a log shows, whatever bytes it holds: those that `open` lets through are never cut
+--   sign_cells k   the cells of bytes that begin at the offset k
+--   sign_row       the row of a log of these bytes
+--   shown_signs    what a log shows, whatever bytes it holds: those that `open` lets through are never cut
 -- Assumes nothing.
 use Rattle.std.specs.Prelude.{ℕ, suc, ◌-◌, cond, ◌&&◌, List, [], ◌∷◌, take, Ok, Err, Result, nat_le}
 use Rattle.logs.specs.declared.cause.SignDamage.{SignDamage}

@@ -11,7 +11,7 @@
 //! let a = plan.first(0);
 //! let ba = plan.extend(a, 1);
 //! let aba = plan.extend(ba, 0);
-//! check_eq(plan.marks(aba), 1)?;
+//! assert_eq!(rt; plan.marks(aba), 1);
 //! ```
 #![tactic(auto)]
 

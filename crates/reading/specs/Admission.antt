@@ -1,7 +1,7 @@
 -- What admitting a plan and a sheet answers, and what the reading holds then.
 --   number_of   the numbers of the refusals, each that of the question that is answered by no
---   Admitted   the answer, with what the word buffer holds then, over a trace of K letters
---   Replaced   an accepted plan and sheet replace those of the reading; a refused sheet changes nothing
+--   Admitted    the answer, with what the word buffer holds then, over a trace of K letters
+--   Replaced    an accepted plan and sheet replace those of the reading; a refused sheet changes nothing
 use Rattle.std.specs.Prelude.{◌≡◌, ℕ, List, Ok, Err, Result, ◌≢◌}
 use Rattle.plan.specs.declared.Plan.{Plan}
 use Rattle.plan.specs.Views.{letters_of}

@@ -1,7 +1,7 @@
 -- What a search and an inspection see of a row.
 --   letter_in, letters_in   the letters of a row, none where a cell is damaged: all that a search sees of it
---   paired, numbered      a trace's answer, with the number of the cell beside its fault: as a pair, and in one value
---   inspected             what inspecting a cell answers
+--   paired, numbered        a trace's answer, with the number of the cell beside its fault: as a pair, and in one value
+--   inspected               what inspecting a cell answers
 use Rattle.std.specs.Prelude.{ℕ, List, [], ◌∷◌, Some, None, Ok, Err, Option, Result}
 use Rattle.trace.specs.declared.fault.Fault.{Fault}
 use Rattle.trace.specs.Cells.{cell_at}

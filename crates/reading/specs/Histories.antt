@@ -1,15 +1,15 @@
 -- The law over histories: what each call answers, in terms of the calls before it and their answers alone.
---   Event, History         a call that was made, with its answer; all since the reading was set up, the latest first
---   Order, blank           a plan with a sheet; those that a reading over K letters is set up with
---   begun                  the latest begin is not closed yet
---   admitted, searched     the plan and the sheet of the latest accepted admit; of the latest one before the latest begin
---   answers                what next has answered since the latest begin, the latest first
---   in_turn                 admit only outside a begun search; next, report and close only inside one; the others in either
---   Verdict                what an admit answers and leaves in its buffers; a sheet that is drawn for the plan is accepted
---   Follows                next answers the hit of the full list that follows those answered since begin, and the end where there is none
---   Accounts               a report: the hits, the fetches and the first damaged cell of the search's steps, and that the fetches are few
---   Due, Kept              what an event has to be after those before it; the law: each event of the history is due
---   history_after           the history of calls that were made in this order, with their answers, after the events before them
+--   Event, History       a call that was made, with its answer; all since the reading was set up, the latest first
+--   Order, blank         a plan with a sheet; those that a reading over K letters is set up with
+--   begun                the latest begin is not closed yet
+--   admitted, searched   the plan and the sheet of the latest accepted admit; of the latest one before the latest begin
+--   answers              what next has answered since the latest begin, the latest first
+--   in_turn              admit only outside a begun search; next, report and close only inside one; the others in either
+--   Verdict              what an admit answers and leaves in its buffers; a sheet that is drawn for the plan is accepted
+--   Follows              next answers the hit of the full list that follows those answered since begin, and the end where there is none
+--   Accounts             a report: the hits, the fetches and the first damaged cell of the search's steps, and that the fetches are few
+--   Due, Kept            what an event has to be after those before it; the law: each event of the history is due
+--   history_after        the history of calls that were made in this order, with their answers, after the events before them
 use Rattle.std.specs.Prelude.{◌≡◌, ℕ, ◌+◌, ◌-◌, ◌*◌, ◌<◌, ◌≤◌, Bool, true, false, not, List, [], ◌∷◌, length, Ok, Err, vec_items, Option, Result, Vec}
 use Rattle.std.specs.List.{slice_get}
 use Rattle.std.specs.declared.alloc.Global.{Global}

@@ -1,5 +1,5 @@
 -- The promise: what a history that keeps the law shows, after each of its calls.
---   full_list    all hits, in their order, of the plan of the latest accepted admit before the latest begin
+--   full_list   all hits, in their order, of the plan of the latest accepted admit before the latest begin
 --   Promise     what is promised after a call
 --   AfterEach   something holds of a history, and held after each of its calls
 use Rattle.std.specs.Prelude.{◌≡◌, ℕ, ◌≤◌, ◌⊎◌, ◌↔◌, List, [], ◌∷◌, length, take, None, Ok, Err, vec_items, Option, Result}

@@ -1,10 +1,10 @@
 -- That a session has come about by a history.
---   trace_of         what is read
---   Rests, Runs     outside a search; inside one
---   Agrees          the session has come about by the history
---   Promised        whatever history the session before the call has come about by, the answer is due after it, and the session
---                   after the call has come about by the longer history
---   Continues       the same for a list of calls
+--   trace_of      what is read
+--   Rests, Runs   outside a search; inside one
+--   Agrees        the session has come about by the history
+--   Promised      whatever history the session before the call has come about by, the answer is due after it, and the session
+--                 after the call has come about by the longer history
+--   Continues     the same for a list of calls
 use Rattle.std.specs.Prelude.{◌≡◌, ℕ, Bool, true, false, List, ◌∷◌, Option, Result}
 use Rattle.pattern.specs.Rows.{Hit as Place}
 use Rattle.plan.specs.Views.{letters_of}

@@ -1,9 +1,9 @@
 -- Where a search is, in code and in theory, and that its numbers are small.
 --   conf_of   the configuration that a spot stands for
---   looked   the same with one cell more looked at, unless the row's front was passed
---   Roomy    no number comes near its bound: a row has at most 2 ^ 24 cells, and no jump is longer than 255
---   Along    ticks lead from one configuration to another, and find nothing
---   Onward   what the search keeps as it goes on from one spot to another
+--   looked    the same with one cell more looked at, unless the row's front was passed
+--   Roomy     no number comes near its bound: a row has at most 2 ^ 24 cells, and no jump is longer than 255
+--   Along     ticks lead from one configuration to another, and find nothing
+--   Onward    what the search keeps as it goes on from one spot to another
 use Rattle.std.specs.Prelude.{◌≡◌, ℕ, ◌+◌, ◌*◌, ◌≤◌, List, Option}
 use Rattle.automaton.specs.Automata.{Automaton}
 use Rattle.automaton.specs.Search.{Conf, Going, counted, noticed, tick, left}

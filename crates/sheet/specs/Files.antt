@@ -1,6 +1,6 @@
 -- The file of a sheet: how a table is written, and what reading asks.
---   file_of                the bytes of a table's file
---   read_file              the table of a file, or the first question that is answered by no
+--   file_of     the bytes of a table's file
+--   read_file   the table of a file, or the first question that is answered by no
 use Rattle.std.specs.Prelude.{◌≡◌, ℕ, zero, suc, ◌+◌, ◌*◌, ◌/◌, ◌%◌, ◌<◌, Bool, true, false, cond, ◌&&◌, ◌↔◌, List, [], ◌∷◌, ◌++◌, map, length, take, drop, Ok, Err, Result, ◌==◌, nat_le, slice_index}
 use Rattle.std.specs.List.{flat_map, AllByRecursion}
 use Rattle.sheet.specs.declared.refusals.SheetRefusal.{SheetRefusal}

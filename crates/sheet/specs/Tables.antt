@@ -1,11 +1,11 @@
 -- What a sheet says: a table of states, each with its marks, its prefix mark and its arrows.
---   Entry, Table          one state; all states, with the number of letters and the shortest length
---   Lawful                what holds of every table that a sheet or a file stands for
---   blank, single         a state without marks and arrows; the table of one such state
---   entry_at               the entry of a state by its number; states are numbered from 1
+--   Entry, Table                      one state; all states, with the number of letters and the shortest length
+--   Lawful                            what holds of every table that a sheet or a file stands for
+--   blank, single                     a state without marks and arrows; the table of one such state
+--   entry_at                          the entry of a state by its number; states are numbered from 1
 --   arrow_from, marks_at, prefix_at   what the table answers about a state, also about one that does not exist
---   has_state, has_places   whether a state, an arrow's two states and its letter exist
---   grown, redirected     the table with one state more; with one arrow set
+--   has_state, has_places             whether a state, an arrow's two states and its letter exist
+--   grown, redirected                 the table with one state more; with one arrow set
 use Rattle.std.specs.Prelude.{◌≡◌, ℕ, zero, suc, ◌^◌, ◌<◌, ◌≤◌, Bool, false, ◌&&◌, List, [], ◌∷◌, ◌++◌, length, replicate, Some, None, Option, nat_le, nat_lt, slice_index, slice_index_or, slice_set}
 use Rattle.std.specs.List.{AllByRecursion}
 

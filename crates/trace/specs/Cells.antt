@@ -1,9 +1,9 @@
 -- A row of cells, what asking for one of them answers, and what every trace's row keeps.
---   shown     a cell as it is answered
---   cell_at   the answer for each number of a cell, past the end too
---   Below     a cell's letter, if it has one, is below n
---   Lettered  so is every letter of a row
---   Lawful    from 1 to 32 letters, every letter of the row one of them, at most 2 ^ 24 cells
+--   shown      a cell as it is answered
+--   cell_at    the answer for each number of a cell, past the end too
+--   Below      a cell's letter, if it has one, is below n
+--   Lettered   so is every letter of a row
+--   Lawful     from 1 to 32 letters, every letter of the row one of them, at most 2 ^ 24 cells
 -- Assumes nothing.
 use Rattle.std.specs.Prelude.{ℕ, zero, suc, ◌<◌, ◌≤◌, List, [], ◌∷◌, length, Ok, Err, Result}
 use Rattle.std.specs.List.{AllByRecursion}
