@@ -3,7 +3,6 @@ use crate::blocks::{headed, sealed};
 use logs::cause::{Cause, EventDamage, SignDamage};
 use logs::event_log::EventLog;
 use logs::sign_log::SignLog;
-use std::process::Abort;
 use std::test::Fail;
 use trace::fault::{Fault, Origin};
 use trace::interface::Trace;
@@ -70,12 +69,22 @@ fn a_pile_over_event_logs(rt: HostRuntime) -> Result<(), Fail> {
     // the second record has a code that no event has
     block[10] = 8;
     let bytes = sealed(block);
-    joins_in_a_join(&rt, EventLog::open(&bytes)?, EventLog::open(&[0; 512])?);
+    let pile = joins_in_a_join(EventLog::open(&bytes)?, EventLog::open(&[0; 512])?);
+    assert_eq!(rt; pile.len(), 4);
+    assert!(rt; pile.cell(0) == Ok(0));
+    assert!(rt; pile.cell(1) == damaged_twice(Origin::Second(Origin::First(check_of(0)))));
+    assert!(rt; pile.cell(2) == damaged_twice(Origin::First(Origin::Second(check_of(0)))));
+    assert!(rt; pile.cell(3) == damaged_twice(Origin::First(Origin::First(record_of(8)))));
+    assert!(rt; pile.cell(4) == Err(Fault::NoSuchCell));
+    assert_eq!(rt; pile.letters(), 32);
     Ok(())
 }
 
 // Of a log of a letter and a damaged record, and of one whose block is damaged: the outer join's mark stands outside.
-fn joins_in_a_join<'a>(rt: &impl Abort, sound: EventLog<'a>, bad: EventLog<'a>) {
+fn joins_in_a_join<'a>(
+    sound: EventLog<'a>,
+    bad: EventLog<'a>,
+) -> Reversal<Join<Window<Join<Window<EventLog<'a>>>>>> {
     let front = Join {
         first: part(sound, 0, 9),
         second: part(bad, 0, 1),
@@ -84,17 +93,10 @@ fn joins_in_a_join<'a>(rt: &impl Abort, sound: EventLog<'a>, bad: EventLog<'a>) 
         first: part(bad, 120, 122),
         second: part(sound, 0, 1),
     };
-    let pile = turned(Join {
+    turned(Join {
         first: part(front, 1, 3),
         second: part(back, 1, 3),
-    });
-    assert_eq!(rt; pile.len(), 4);
-    assert!(rt; pile.cell(0) == Ok(0));
-    assert!(rt; pile.cell(1) == damaged_twice(Origin::Second(Origin::First(check_of(0)))));
-    assert!(rt; pile.cell(2) == damaged_twice(Origin::First(Origin::Second(check_of(0)))));
-    assert!(rt; pile.cell(3) == damaged_twice(Origin::First(Origin::First(record_of(8)))));
-    assert!(rt; pile.cell(4) == Err(Fault::NoSuchCell));
-    assert_eq!(rt; pile.letters(), 32);
+    })
 }
 
 fn damaged_twice(

@@ -1,28 +1,32 @@
 //! Sheets by example: a small one made, written and read, and each refusal at its limit.
 use sheet::{GrowthError, Sheet, SheetError, SheetRefusal};
 use std::alloc::Global;
-use std::process::Abort;
 use std::test::Fail;
 
+/// Fails the test that asks, unless it is so.
+fn is_so(it: bool, what: &str) -> Result<(), Fail> {
+    if it { Ok(()) } else { Err(Fail::new(what)) }
+}
+
 /// The states of the sheet of the pattern ABA over 26 letters.
-fn states(rt: &impl Abort, heap: Global) -> Result<Sheet, Fail> {
+fn states(heap: Global) -> Result<Sheet, Fail> {
     let mut sheet = Sheet::single(heap, 26, 3)?;
-    assert_eq!(rt; sheet.push_state(0, true)?, 2);
-    assert_eq!(rt; sheet.push_state(0, false)?, 3);
-    assert_eq!(rt; sheet.push_state(0, false)?, 4);
-    assert_eq!(rt; sheet.push_state(0, true)?, 5);
-    assert_eq!(rt; sheet.push_state(1, false)?, 6);
+    is_so(sheet.push_state(0, true)? == 2, "state 2")?;
+    is_so(sheet.push_state(0, false)? == 3, "state 3")?;
+    is_so(sheet.push_state(0, false)? == 4, "state 4")?;
+    is_so(sheet.push_state(0, true)? == 5, "state 5")?;
+    is_so(sheet.push_state(1, false)? == 6, "state 6")?;
     Ok(sheet)
 }
 
 /// The sheet of the pattern ABA, with its arrows.
-fn aba(rt: &impl Abort, heap: Global) -> Result<Sheet, Fail> {
-    let mut sheet = states(rt, heap)?;
-    assert!(rt; sheet.set_arrow(1, 0, 2));
-    assert!(rt; sheet.set_arrow(1, 1, 3));
-    assert!(rt; sheet.set_arrow(2, 1, 4));
-    assert!(rt; sheet.set_arrow(3, 0, 5));
-    assert!(rt; sheet.set_arrow(4, 0, 6));
+fn aba(heap: Global) -> Result<Sheet, Fail> {
+    let mut sheet = states(heap)?;
+    is_so(sheet.set_arrow(1, 0, 2), "the arrow from 1 by A")?;
+    is_so(sheet.set_arrow(1, 1, 3), "the arrow from 1 by B")?;
+    is_so(sheet.set_arrow(2, 1, 4), "the arrow from 2 by B")?;
+    is_so(sheet.set_arrow(3, 0, 5), "the arrow from 3 by A")?;
+    is_so(sheet.set_arrow(4, 0, 6), "the arrow from 4 by A")?;
     Ok(sheet)
 }
 
@@ -49,10 +53,6 @@ fn number(made: Result<Sheet, SheetError>) -> u8 {
     }
 }
 
-fn reads(rt: &impl Abort, heap: Global, bytes: &[u8], answer: u8) {
-    assert_eq!(rt; number(Sheet::read(heap, bytes)), answer);
-}
-
 /// Whether the sheet answers as that of ABA.
 fn is_aba(sheet: &Sheet) -> bool {
     sheet.letters() == 26
@@ -68,7 +68,7 @@ fn is_aba(sheet: &Sheet) -> bool {
 #[test]
 fn written_and_read(rt: HostRuntime) -> Result<(), Fail> {
     let heap = rt.alloc();
-    let sheet = aba(&rt, heap)?;
+    let sheet = aba(heap)?;
     let mut buffer: Vec<u8> = vec![in heap; 9; 200]?;
     assert_eq!(rt; sheet.write(buffer.as_mut_slice()), Ok(190));
     assert!(rt; byte(buffer.as_slice(), 189) == 0 && byte(buffer.as_slice(), 190) == 9);
@@ -82,7 +82,7 @@ fn written_and_read(rt: HostRuntime) -> Result<(), Fail> {
 
 #[test]
 fn a_short_buffer_is_left_alone(rt: HostRuntime) -> Result<(), Fail> {
-    let sheet = aba(&rt, rt.alloc())?;
+    let sheet = aba(rt.alloc())?;
     let mut short: Vec<u8> = vec![in rt.alloc(); 7; 189]?;
     assert_eq!(rt;
         sheet.write(short.as_mut_slice()),
@@ -96,17 +96,22 @@ fn a_short_buffer_is_left_alone(rt: HostRuntime) -> Result<(), Fail> {
 #[test]
 fn questions_at_their_limits(rt: HostRuntime) {
     let heap = rt.alloc();
-    reads(&rt, heap, &[1, 1, 0], 11);
-    reads(&rt, heap, &[1, 1, 0, 2], 12);
-    reads(&rt, heap, &[0, 1, 0, 1], 13);
-    reads(&rt, heap, &[1, 0, 0, 1], 13);
-    reads(&rt, heap, &[1, 33, 0, 1], 13);
-    reads(&rt, heap, &[1, 32, 0, 1], 14);
-    reads(&rt, heap, &[1, 1, 0, 1, 0, 0, 0, 0, 2], 14);
-    reads(&rt, heap, &[1, 1, 0, 1, 0, 0, 0, 0, 2, 2, 0], 14);
-    reads(&rt, heap, &[1, 1, 0, 1, 0, 0, 0, 0, 2, 1], 15);
-    reads(&rt, heap, &[1, 1, 0, 1, 0, 0, 0, 0, 1, 2], 15);
-    reads(&rt, heap, &[1, 1, 0, 1, 0, 0, 0, 0, 1, 1], 0);
+    let cases: &[(&[u8], u8)] = &[
+        (&[1, 1, 0], 11),
+        (&[1, 1, 0, 2], 12),
+        (&[0, 1, 0, 1], 13),
+        (&[1, 0, 0, 1], 13),
+        (&[1, 33, 0, 1], 13),
+        (&[1, 32, 0, 1], 14),
+        (&[1, 1, 0, 1, 0, 0, 0, 0, 2], 14),
+        (&[1, 1, 0, 1, 0, 0, 0, 0, 2, 2, 0], 14),
+        (&[1, 1, 0, 1, 0, 0, 0, 0, 2, 1], 15),
+        (&[1, 1, 0, 1, 0, 0, 0, 0, 1, 2], 15),
+        (&[1, 1, 0, 1, 0, 0, 0, 0, 1, 1], 0),
+    ];
+    for (bytes, answer) in cases {
+        assert_eq!(rt; number(Sheet::read(heap, *bytes)), *answer);
+    }
 }
 
 #[test]
