@@ -27,7 +27,7 @@ pub places-init : goal.places-init
 places-init g c = (refl, onward_here _ _ _ c.args.self.now.at c.args.self.now.roomy)
 
 pub loop-at-init : goal.loop-at-init
-loop-at-init g c = (c.places-test.true, c.places.invariant.0, onward_here _ _ _ c.places.at c.places.invariant.1.roomy)
+loop-at-init g c = (omega arith, c.places.invariant.0, onward_here _ _ _ c.places.at c.places.invariant.1.roomy)
 
 jumps : (g : given.Over) (c : goal.After-jump-at g) → Went (automaton_of c.args.self.now.reading.sheet) c.shortest-least.result (letters_in (g.T.Trace.row c.args.self.now.reading.trace)) c.loop-at.at c.jump-at.result
 jumps g c =
