@@ -1,0 +1,80 @@
+//! The sheet of ABA is drawn, admitted and searched with, in the log XABABA.
+use judge::{DRAW_WORDS, WORD_BYTES, draw};
+use logs::cause::SignDamage;
+use logs::sign_log::SignLog;
+use plan::Plan;
+use reading::{Answer, Call, Hit, Reading, perform};
+use std::alloc::Global;
+use std::test::Fail;
+
+const FIRST: Hit = Hit {
+    start: 1,
+    end: 3,
+    marks: 1,
+};
+
+const SECOND: Hit = Hit {
+    start: 3,
+    end: 5,
+    marks: 1,
+};
+
+#[test]
+fn a_search(rt: HostRuntime) -> Result<(), Fail> {
+    let heap = rt.alloc();
+    let plan = Plan::read(26, b"ABA\n")?;
+    let mut memory: Vec<u64> = vec![in heap; 7; DRAW_WORDS]?;
+    let mut word: Vec<u8> = vec![in heap; 9; WORD_BYTES]?;
+    let sheet = draw(heap, &plan, memory.as_mut_slice())?;
+    let mut reading = Reading::new(heap, SignLog::open(b"XABABA")?)?;
+    let admitted = reading.admit(plan, sheet, memory.as_mut_slice(), word.as_mut_slice());
+    assert!(rt; admitted.is_ok());
+    let mut search = reading.begin();
+    assert_eq!(rt; search.next(), Some(FIRST));
+    assert_eq!(rt; search.next(), Some(SECOND));
+    assert_eq!(rt; search.next(), None);
+    let report = search.report();
+    assert_eq!(rt; (report.hits, report.damaged), (2, None));
+    Ok(())
+}
+
+// The sheet of ABA is drawn, and is to be admitted.
+fn admission(heap: Global) -> Result<Call, Fail> {
+    let plan = Plan::read(26, b"ABA\n")?;
+    let mut memory: Vec<u64> = vec![in heap; 0; DRAW_WORDS]?;
+    let sheet = draw(heap, &plan, memory.as_mut_slice())?;
+    Ok(Call::Admit {
+        plan,
+        sheet,
+        memory,
+        word: vec![in heap; 0; WORD_BYTES]?,
+    })
+}
+
+fn hit_in(answer: &Answer<SignDamage>) -> Option<Hit> {
+    match answer {
+        Answer::Found(found) => *found,
+        _ => None,
+    }
+}
+
+#[test]
+fn a_list_of_calls(rt: HostRuntime) -> Result<(), Fail> {
+    let heap = rt.alloc();
+    let mut calls: Vec<Call> = Vec::new(heap);
+    calls.push(admission(heap)?)?;
+    calls.push(Call::Begin)?;
+    calls.push(Call::Next)?;
+    calls.push(Call::Next)?;
+    calls.push(Call::Next)?;
+    let answers = perform(heap, SignLog::open(b"XABABA")?, calls)?;
+    assert_eq!(rt; answers.len(), 5);
+    let mut hits: Vec<Hit> = Vec::new(heap);
+    for answer in &answers {
+        if let Some(hit) = hit_in(answer) {
+            hits.push(hit)?;
+        }
+    }
+    assert!(rt; hits.as_slice() == [FIRST, SECOND].as_slice());
+    Ok(())
+}
