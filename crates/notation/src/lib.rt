@@ -15,7 +15,7 @@ ghost use Rattle.notation.specs.Numbers.{number_of, line_of_refusal};
 ghost use Rattle.notation.specs.Refusals.{RefusesForItsReason};
 
 /// What a byte stands for in the text of a plan.
-#[derive(Clone, Copy, PartialEq, Debug)]
+#[derive(Clone, Copy, PartialEq, Eq, Debug)]
 pub enum Sign {
     /// The sign of this letter, which is one of the plan's.
     Letter(u8),
@@ -27,25 +27,25 @@ pub enum Sign {
     Other,
 }
 
-/// What is wrong with a line.
-#[derive(Clone, Copy, PartialEq, Debug)]
+/// What is wrong with a line, by the number of the question that it answers with no.
+#[derive(Clone, Copy, PartialEq, Eq, Debug)]
 pub enum LineFault {
     /// It comes after the last line that a plan may have.
-    TooManyLines,
+    TooManyLines = 3,
     /// No step begins with the next byte.
-    BadSign,
+    BadSign = 4,
     /// The opened bracket is not followed by signs of letters and its closing bracket.
-    BadSet,
+    BadSet = 5,
     /// The step admits no letter.
-    NoLetter,
+    NoLetter = 6,
     /// The step comes after the last one that a plan may have.
-    TooManySteps,
+    TooManySteps = 7,
     /// The line has no step.
-    EmptyLine,
+    EmptyLine = 8,
 }
 
 /// Why a text is no plan.
-#[derive(Clone, Copy, PartialEq, Debug)]
+#[derive(Clone, Copy, PartialEq, Eq, Debug)]
 pub enum PlanRefusal {
     /// No alphabet has this many letters.
     Letters,
@@ -63,12 +63,7 @@ impl PlanRefusal {
         match self {
             PlanRefusal::Letters => 1,
             PlanRefusal::Text => 2,
-            PlanRefusal::Line(_, LineFault::TooManyLines) => 3,
-            PlanRefusal::Line(_, LineFault::BadSign) => 4,
-            PlanRefusal::Line(_, LineFault::BadSet) => 5,
-            PlanRefusal::Line(_, LineFault::NoLetter) => 6,
-            PlanRefusal::Line(_, LineFault::TooManySteps) => 7,
-            PlanRefusal::Line(_, LineFault::EmptyLine) => 8,
+            PlanRefusal::Line(_, fault) => fault as u8,
         }
     }
 
