@@ -147,9 +147,9 @@ unfolding filled
 filled_faulty f = refl
 
 -- what is left of a line, after the steps that were read
-pub line_left : (K room : ℕ) (t : List ℕ) (n : ℕ) (had rest : List ℕ) (x : Found (List ℕ)) → steps_of K n had rest ≡ steps_of K room [] t → filled (steps_of K n had rest) ≡ x → x ≡ line_of K room t
+pub line_left : (K L room : ℕ) (t : List ℕ) (n : ℕ) (had rest : List ℕ) (x : Found (List ℕ)) → steps_of L n had rest ≡ steps_of K room [] t → filled (steps_of L n had rest) ≡ x → x ≡ line_of K room t
 unfolding line_of
-line_left K room t n had rest x e f = sym f ∙ ap filled e
+line_left K L room t n had rest x e f = sym f ∙ ap filled e
 
 -- ---- plans
 

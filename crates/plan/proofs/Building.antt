@@ -5,13 +5,16 @@ use lib.Lanes.{mask_l}
 use Rattle.std.specs.List.{range_with_len}
 use Rattle.std.proofs.lemmas.Nat.{pow-add}
 use Rattle.std.proofs.lemmas.List.FromFn.{length-map-range_with_len, get_or-map-range_with_len, map-range_with_len_more}
-use Rattle.std.proofs.lemmas.List.{append_assoc, map-append, length-map, length-append, length-take, length-drop, get_or-take, get_or-drop, get_or-set_same, get_or-set_other, get_or_append_left, get_or_at, get_or_default, take-append-le, take_at, same_lists}
+use Rattle.std.proofs.lemmas.List.{append_assoc, map-append, length-map, length-append, length-take, length-drop, get_or-take, get_or-drop, get_or-set_same, get_or-set_other, get_or_append_left, get_or_at, get_or_default, take-append-le, drop-append-le, length_push, take_at, same_lists}
+use Rattle.std.proofs.Math.Seq.{drop-append_seam, take-length}
 use Rattle.std.proofs.lemmas.Bool.{cases_lt}
 use Rattle.pattern.specs.Patterns.{shortest, longest, Filled}
 use Rattle.pattern.specs.Fits.{tails, rests, steps_where, admits_first, is_last, opening, opens, first_step, pattern_at, plan_of, Inside, Nonempty, Firsts, Admit}
 use Rattle.plan.specs.Sets.{Within}
-use Rattle.plan.specs.Views.{patterns_of, Room}
+use Rattle.plan.specs.Rows.{items, firsts_of, lengths_of, plan_in}
+use Rattle.plan.specs.Views.{letters_of, patterns_of, Room}
 use Rattle.plan.specs.declared.Plan.{Plan}
+use Rattle.plan.specs.declared.span.Span.{Span}
 use Rattle.pattern.proofs.Bitwise.{or_above, mask_l_append}
 use Rattle.pattern.proofs.Places.{where_bound, opens_bound, length_opens}
 
@@ -105,18 +108,17 @@ module _ (plan : List (List ℕ)) (p : List ℕ) (some : 0 < length p) (fits : l
         | inr l ↦ let e : length plan ≡ j = omega (arith, length-append plan (p ∷ [])) in rw (get_or_at plan p [] [] j e) some
       ]
 
-  pub placed_more : (firsts : List ℕ) (n from : ℕ) → length plan ≡ n → length (rests plan) ≡ from → n < length firsts → Firsts plan firsts → Firsts (plan ++ p ∷ []) (set firsts n from)
+  pub placed_more : (firsts : List ℕ) → length plan ≡ length firsts → Firsts plan firsts → Firsts (plan ++ p ∷ []) (firsts ++ length (rests plan) ∷ [])
   unfolding first_step
-  placed_more firsts n from is_n is_from room placed j less =
+  placed_more firsts long placed j less =
       elim (cases_lt j (length plan)) [
         | inl l ↦
-            let ne : j ≢ n = omega arith in
+            let here : j < length firsts = omega arith in
             let le : j ≤ length plan = omega arith in
-            get_or-set_other firsts n j from 0 ne ∙ placed j l ∙ ap (λ (x : List (List ℕ)). length (rests x)) (sym (take-append-le j plan (p ∷ []) le))
+            get_or_append_left firsts (length (rests plan) ∷ []) 0 j here ∙ placed j l ∙ ap (λ (x : List (List ℕ)). length (rests x)) (sym (take-append-le j plan (p ∷ []) le))
         | inr l ↦
             let e : length plan ≡ j = omega (arith, length-append plan (p ∷ [])) in
-            let f : n ≡ j = omega arith in
-            ap (λ (x : ℕ). get_or (set firsts n from) x 0) (sym f) ∙ get_or-set_same firsts n from 0 room ∙ sym is_from ∙ ap (λ (x : List (List ℕ)). length (rests x)) (sym (take_at plan (p ∷ []) j e))
+            get_or_at firsts (length (rests plan)) [] 0 j (sym long ∙ e) ∙ ap (λ (x : List (List ℕ)). length (rests x)) (sym (take_at plan (p ∷ []) j e))
       ]
 
 -- what holds of every step still does
@@ -137,139 +139,158 @@ unfolding longest
 longest_more [] p = omega arith
 longest_more (q ∷ ps) p = omega (arith, longest_more ps p)
 
--- a part of a list, by its elements
-part_is : (xs ys : List ℕ) (f n : ℕ) → length xs ≡ n → f + n ≤ length ys → ((k : ℕ) → k < n → get_or ys (f + k) 0 ≡ get_or xs k 0) → take n (drop f ys) ≡ xs
-part_is xs ys f n long inside at =
-    same_lists (take n (drop f ys)) xs size (λ k d less. go k d (omega (arith, size)))
-  where
-    size : length (take n (drop f ys)) ≡ length xs
-    size = simp (length-take, length-drop) (omega arith)
+-- ---- one span more, behind the others
 
-    go : (k : ℕ) (d : ℕ) → k < n → get_or (take n (drop f ys)) k d ≡ get_or xs k d
-    go k d less =
-        get_or-take n (drop f ys) k d less ∙ get_or-drop f ys k d ∙ get_or_default ys (f + k) d 0 (omega arith) ∙ at k less ∙ get_or_default xs k 0 d (omega arith)
+front : (f n : ℕ) (xs ys : List ℕ) → f + n ≤ length xs → take n (drop f (xs ++ ys)) ≡ take n (drop f xs)
+front f n xs ys h =
+    let here : f ≤ length xs = omega arith in
+    let rest : n ≤ length (drop f xs) = simp length-drop (omega arith) in
+    rw (drop-append-le f xs ys here) (take-append-le n (drop f xs) ys rest)
 
--- a part that lies where two lists are the same
-same_part : (xs ys : List ℕ) (f n count : ℕ) → f + n ≤ count → count ≤ length xs → length xs ≡ length ys → ((k : ℕ) → k < count → get_or ys k 0 ≡ get_or xs k 0) → take n (drop f ys) ≡ take n (drop f xs)
-same_part xs ys f n count inside small same at =
-    part_is (take n (drop f xs)) ys f n (simp (length-take, length-drop) (omega arith)) (omega arith)
-    (λ k less. at (f + k) (omega arith) ∙ sym (get_or-take n (drop f xs) k 0 less ∙ get_or-drop f xs k 0))
+behind : (xs p : List ℕ) → take (length p) (drop (length xs) (xs ++ p)) ≡ p
+behind xs p = rw (drop-append_seam xs p) (take-length p)
 
--- what is written to make a plan with the pattern p more
-pub record Written (plan : Plan) (p steps : List ℕ) : Type 0 where
-  pub room : Room plan p
-  pub firsts : length plan.firsts ≡ 32
-  pub lengths : length plan.lengths ≡ 32
-  pub was : length plan.steps ≡ 64
-  pub is : length steps ≡ 64
-  pub before : (k : ℕ) → k < plan.count → get_or steps k 0 ≡ get_or plan.steps k 0
-  pub there : (k : ℕ) → k < length p → get_or steps (plan.count + k) 0 ≡ get_or p k 0
+module _ (spans : List Span) (s : Span) (from size : ℕ) (first : s.first ≡ from) (long : s.length ≡ size) where
+  pub firsts_more : firsts_of (spans ++ s ∷ []) ≡ firsts_of spans ++ from ∷ []
+  firsts_more = map-append (λ (x : Span). x.first) spans (s ∷ []) ∙ ap (λ (n : ℕ). firsts_of spans ++ n ∷ []) first
 
-module _ (plan : Plan) (p steps : List ℕ) (w : Written plan p steps) where
-  abbrev n : ℕ
-  n = plan.patterns
+  pub lengths_more : lengths_of (spans ++ s ∷ []) ≡ lengths_of spans ++ size ∷ []
+  lengths_more = map-append (λ (x : Span). x.length) spans (s ∷ []) ∙ ap (λ (n : ℕ). lengths_of spans ++ n ∷ []) long
 
+length_firsts : (spans : List Span) → length (firsts_of spans) ≡ length spans
+length_firsts spans = length-map spans (λ x. x.first)
+
+length_lengths : (spans : List Span) → length (lengths_of spans) ≡ length spans
+length_lengths spans = length-map spans (λ x. x.length)
+
+module _ (spans : List Span) (steps p : List ℕ) (inside : Inside (length spans) (firsts_of spans) (lengths_of spans) (length steps)) where
   abbrev firsts' : List ℕ
-  firsts' = set plan.firsts n plan.count
+  firsts' = firsts_of spans ++ length steps ∷ []
 
   abbrev lengths' : List ℕ
-  lengths' = set plan.lengths n (length p)
+  lengths' = lengths_of spans ++ length p ∷ []
 
-  size : length (patterns_of plan) ≡ n
-  size = length-map-range_with_len (pattern_at plan.firsts plan.lengths plan.steps) 0 n
+  first_old : (j : ℕ) → j < length spans → get_or firsts' j 0 ≡ get_or (firsts_of spans) j 0
+  first_old j less = get_or_append_left (firsts_of spans) (length steps ∷ []) 0 j (omega (arith, length_firsts spans))
 
-  few : n < 32
-  few = w.room.patterns
+  length_old : (j : ℕ) → j < length spans → get_or lengths' j 0 ≡ get_or (lengths_of spans) j 0
+  length_old j less = get_or_append_left (lengths_of spans) (length p ∷ []) 0 j (omega (arith, length_lengths spans))
 
-  fits : plan.count + length p ≤ 64
-  fits = w.room.steps
+  first_new : (j : ℕ) → length spans ≡ j → get_or firsts' j 0 ≡ length steps
+  first_new j e = get_or_at (firsts_of spans) (length steps) [] 0 j (length_firsts spans ∙ e)
 
-  room : length (rests (patterns_of plan)) + length p ≤ 64
-  room = omega (arith, fits, plan.counted)
+  length_new : (j : ℕ) → length spans ≡ j → get_or lengths' j 0 ≡ length p
+  length_new j e = get_or_at (lengths_of spans) (length p) [] 0 j (length_lengths spans ∙ e)
 
-  old : (j : ℕ) → j < n → pattern_at firsts' lengths' steps j ≡ pattern_at plan.firsts plan.lengths plan.steps j
-  old j less =
-      let ne : j ≢ n = omega arith in
-      rw (get_or-set_other plan.firsts n j plan.count 0 ne, get_or-set_other plan.lengths n j (length p) 0 ne)
-      (same_part plan.steps steps (get_or plan.firsts j 0) (get_or plan.lengths j 0) plan.count (plan.inside j less) (omega (arith, w.was, plan.small)) (w.was ∙ sym w.is) w.before)
+  old : (j : ℕ) → j < length spans → pattern_at firsts' lengths' (steps ++ p) j ≡ pattern_at (firsts_of spans) (lengths_of spans) steps j
+  old j less = rw (first_old j less, length_old j less) (front (get_or (firsts_of spans) j 0) (get_or (lengths_of spans) j 0) steps p (inside j less))
 
-  new : pattern_at firsts' lengths' steps n ≡ p
-  new =
-      let l : n < length plan.firsts = omega (arith, w.firsts, few) in
-      let m : n < length plan.lengths = omega (arith, w.lengths, few) in
-      rw (get_or-set_same plan.firsts n plan.count 0 l, get_or-set_same plan.lengths n (length p) 0 m)
-      (part_is p steps plan.count (length p) refl (omega (arith, fits, w.is)) w.there)
+  new : pattern_at firsts' lengths' (steps ++ p) (length spans) ≡ p
+  new = rw (first_new (length spans) refl, length_new (length spans) refl) (behind steps p)
 
-  pub view : plan_of (n + 1) firsts' lengths' steps ≡ patterns_of plan ++ (p ∷ [])
-  view =
-      map-range_with_len_more (pattern_at firsts' lengths' steps) 0 n n (omega arith)
+  abbrev at' : ℕ → List ℕ
+  at' = pattern_at firsts' lengths' (steps ++ p)
+
+  abbrev at : ℕ → List ℕ
+  at = pattern_at (firsts_of spans) (lengths_of spans) steps
+
+  pub plan_more : plan_of (length spans + 1) firsts' lengths' (steps ++ p) ≡ plan_in spans steps ++ p ∷ []
+  plan_more =
+      map-range_with_len_more at' 0 (length spans) (length spans) (omega arith)
       ∙ ap₂ {C = List (List ℕ)} (λ x y. x ++ (y ∷ [])) olds new
     where
-      olds : map (pattern_at firsts' lengths' steps) (range_with_len 0 n) ≡ patterns_of plan
-      olds = same_lists _ _ (length-map-range_with_len (pattern_at firsts' lengths' steps) 0 n ∙ sym size) (λ k d less.
-          let l : k < n = omega (arith, length-map-range_with_len (pattern_at firsts' lengths' steps) 0 n) in
-          get_or-map-range_with_len (pattern_at firsts' lengths' steps) 0 n k k d l (omega arith) ∙ old k l ∙ sym (get_or-map-range_with_len (pattern_at plan.firsts plan.lengths plan.steps) 0 n k k d l (omega arith)))
+      olds : map at' (range_with_len 0 (length spans)) ≡ plan_in spans steps
+      olds = same_lists _ _ (length-map-range_with_len at' 0 (length spans) ∙ sym (length-map-range_with_len at 0 (length spans))) (λ k d less.
+          let l : k < length spans = omega (arith, length-map-range_with_len at' 0 (length spans)) in
+          get_or-map-range_with_len at' 0 (length spans) k k d l (omega arith) ∙ old k l ∙ sym (get_or-map-range_with_len at 0 (length spans) k k d l (omega arith)))
 
-  abbrev plan' : List (List ℕ)
-  plan' = plan_of (n + 1) firsts' lengths' steps
-
-  pub inside_new : Inside (n + 1) firsts' lengths' (plan.count + length p)
-  inside_new j less =
-      elim (cases_lt j n) [
-        | inl l ↦
-            let ne : j ≢ n = omega arith in
-            rw (get_or-set_other plan.firsts n j plan.count 0 ne, get_or-set_other plan.lengths n j (length p) 0 ne) (omega (arith, plan.inside j l))
-        | inr l ↦
-            let e : j ≡ n = omega arith in
-            let a : n < length plan.firsts = omega (arith, w.firsts, few) in
-            let b : n < length plan.lengths = omega (arith, w.lengths, few) in
-            rw (e, get_or-set_same plan.firsts n plan.count 0 a, get_or-set_same plan.lengths n (length p) 0 b) (omega arith)
+  pub inside_more : Inside (length spans + 1) firsts' lengths' (length steps + length p)
+  inside_more j less =
+      elim (cases_lt j (length spans)) [
+        | inl l ↦ rw (first_old j l, length_old j l) (omega (arith, inside j l))
+        | inr l ↦ let e : length spans ≡ j = omega arith in rw (first_new j e, length_new j e) (omega arith)
       ]
 
-  pub counted_new : length (rests plan') ≡ plan.count + length p
-  counted_new = ap (λ (x : List (List ℕ)). length (rests x)) view ∙ counted_more (patterns_of plan) p w.room.some room ∙ ap (λ (k : ℕ). k + length p) plan.counted
+-- ---- a plan without patterns
+
+pub plan_none : (spans : List Span) (steps : List ℕ) → spans ≡ [] → plan_in spans steps ≡ []
+plan_none spans steps none = rw none refl
+
+-- ---- a plan with one pattern more
+
+pub length_plan : (plan : Plan) → length (patterns_of plan) ≡ length (items plan.spans)
+length_plan plan = length-map-range_with_len (pattern_at (firsts_of (items plan.spans)) (lengths_of (items plan.spans)) (items plan.steps)) 0 (length (items plan.spans))
+
+-- the rows of the plan with the pattern p more
+pub record Grown (plan : Plan) (p : List ℕ) (from : ℕ) (steps : List ℕ) (spans : List Span) : Type 0 where
+  pub room : Room plan p
+  pub behind : from ≡ length (items plan.steps)
+  pub span : Span
+  pub first : span.first ≡ from
+  pub long : span.length ≡ length p
+  pub steps_are : steps ≡ items plan.steps ++ p
+  pub spans_are : spans ≡ items plan.spans ++ span ∷ []
+
+module _ (plan : Plan) (p : List ℕ) (from : ℕ) (steps : List ℕ) (spans : List Span) (g : Grown plan p from steps spans) where
+  abbrev plan' : List (List ℕ)
+  plan' = plan_in spans steps
+
+  firsts_are : firsts_of spans ≡ firsts_of (items plan.spans) ++ length (items plan.steps) ∷ []
+  firsts_are = ap firsts_of g.spans_are ∙ firsts_more (items plan.spans) g.span (length (items plan.steps)) (length p) (g.first ∙ g.behind) g.long
+
+  lengths_are : lengths_of spans ≡ lengths_of (items plan.spans) ++ length p ∷ []
+  lengths_are = ap lengths_of g.spans_are ∙ lengths_more (items plan.spans) g.span (length (items plan.steps)) (length p) (g.first ∙ g.behind) g.long
+
+  pub more_spans : length spans ≡ length (items plan.spans) + 1
+  more_spans = ap length g.spans_are ∙ length_push (items plan.spans) g.span
+
+  pub more_steps : length steps ≡ length (items plan.steps) + length p
+  more_steps = ap length g.steps_are ∙ length-append (items plan.steps) p
+
+  pub view : plan' ≡ patterns_of plan ++ (p ∷ [])
+  view = rw (more_spans, firsts_are, lengths_are, g.steps_are) (plan_more (items plan.spans) (items plan.steps) p plan.inside)
+
+  room : length (rests (patterns_of plan)) + length p ≤ 64
+  room = omega (arith, g.room.steps, plan.counted)
+
+  pub inside_new : Inside (length spans) (firsts_of spans) (lengths_of spans) (length steps)
+  inside_new = rw (more_spans, firsts_are, lengths_are, more_steps) (inside_more (items plan.spans) (items plan.steps) p plan.inside)
+
+  pub counted_new : length (rests plan') ≡ length steps
+  counted_new = ap (λ (x : List (List ℕ)). length (rests x)) view ∙ counted_more (patterns_of plan) p g.room.some room ∙ ap (λ (k : ℕ). k + length p) plan.counted ∙ sym more_steps
 
   pub nonempty_new : Nonempty plan'
-  nonempty_new = subst Nonempty (sym view) (nonempty_more (patterns_of plan) p w.room.some room plan.nonempty)
+  nonempty_new = subst Nonempty (sym view) (nonempty_more (patterns_of plan) p g.room.some room plan.nonempty)
 
   pub filled_new : Filled plan'
-  filled_new = subst Filled (sym view) (each_more (λ s. 0 < s) (patterns_of plan) p plan.filled (λ i less. (w.room.sets i less).0))
+  filled_new = subst Filled (sym view) (each_more (λ s. 0 < s) (patterns_of plan) p plan.filled (λ i less. (g.room.sets i less).0))
 
-  pub within_new : Within plan.letters plan'
-  within_new = subst (Within plan.letters) (sym view) (each_more (λ s. s < 2 ^ plan.letters) (patterns_of plan) p plan.within (λ i less. (w.room.sets i less).1))
+  pub within_new : Within (letters_of plan) plan'
+  within_new = subst (Within (letters_of plan)) (sym view) (each_more (λ s. s < 2 ^ letters_of plan) (patterns_of plan) p plan.within (λ i less. (g.room.sets i less).1))
 
-  pub least_new : (least : ℕ) → ((q : List ℕ) → length q ≡ length p → least ≡ shortest (patterns_of plan ++ q ∷ [])) → least ≡ shortest plan'
-  least_new least is = is p refl ∙ ap shortest (sym view)
+  pub least_first : length (items plan.spans) ≡ 0 → length p ≡ shortest plan'
+  unfolding shortest
+  least_first none = rw (view, none) refl
 
-  pub most_new : (most : ℕ) → ((q : List ℕ) → length q ≡ length p → most ≡ longest (patterns_of plan ++ q ∷ [])) → most ≡ longest plan'
-  most_new most is = is p refl ∙ ap longest (sym view)
+  pub least_more : 0 < length (items plan.spans) → min (length p) plan.shortest ≡ shortest plan'
+  least_more some = omega (arith, plan.least, shortest_more (patterns_of plan) p (omega (arith, length_plan plan)), ap shortest view)
 
-  pub placed_new : Firsts plan' firsts'
-  placed_new = subst (λ (x : List (List ℕ)). Firsts x firsts') (sym view) (placed_more (patterns_of plan) p w.room.some room plan.firsts n plan.count size plan.counted (omega (arith, w.firsts, few)) plan.placed)
+  pub most_new : max (length p) plan.longest ≡ longest plan'
+  most_new = omega (arith, plan.most, longest_more (patterns_of plan) p, ap longest view)
 
-  pub admits_new : (admit : List ℕ) → ((a : ℕ) → a < plan.letters → get_or admit a 0 ≡ bit_or (get_or plan.admit a 0) ((steps_where (admits_first a) (p ∷ []) * 2 ^ plan.count) % 2 ^ 64)) → Admit plan' plan.letters admit
+  pub placed_new : Firsts plan' (firsts_of spans)
+  placed_new =
+      let long : length (patterns_of plan) ≡ length (firsts_of (items plan.spans)) = length_plan plan ∙ sym (length_firsts (items plan.spans)) in
+      rw (view, firsts_are, ← plan.counted) (placed_more (patterns_of plan) p g.room.some room (firsts_of (items plan.spans)) long plan.placed)
+
+  pub admits_new : (admit : List ℕ) → ((a : ℕ) → a < 32 → get_or admit a 0 ≡ bit_or (get_or plan.admit a 0) ((steps_where (admits_first a) (p ∷ []) * 2 ^ from) % 2 ^ 64)) → Admit plan' (letters_of plan) admit
   admits_new admit is a less =
-      is a less
-      ∙ rw (plan.admits a less, ← plan.counted) (where_more (patterns_of plan) p w.room.some room (admits_first a))
+      is a (omega (arith, plan.alphabet.few))
+      ∙ rw (g.behind, plan.admits a less, ← plan.counted) (where_more (patterns_of plan) p g.room.some room (admits_first a))
       ∙ ap (steps_where (admits_first a)) (sym view)
 
-  pub opened_new : bit_or plan.starts ((1 * 2 ^ plan.count) % 2 ^ 64) ≡ mask_l (opens plan')
-  opened_new = rw (plan.opened, ← plan.counted) (opened_more (patterns_of plan) p w.room.some room) ∙ ap (λ (x : List (List ℕ)). mask_l (opens x)) (sym view)
+  pub opened_new : bit_or plan.starts ((1 * 2 ^ from) % 2 ^ 64) ≡ mask_l (opens plan')
+  opened_new = rw (g.behind, plan.opened, ← plan.counted) (opened_more (patterns_of plan) p g.room.some room) ∙ ap (λ (x : List (List ℕ)). mask_l (opens x)) (sym view)
 
-  pub ended_new : bit_or plan.ends ((1 * 2 ^ (plan.count + length p - 1)) % 2 ^ 64) ≡ steps_where is_last plan'
-  ended_new = rw (plan.ended, ← plan.counted) (ended_more (patterns_of plan) p w.room.some room) ∙ ap (steps_where is_last) (sym view)
-
-pub length_plan : (plan : Plan) → length (patterns_of plan) ≡ plan.patterns
-length_plan plan = length-map-range_with_len (pattern_at plan.firsts plan.lengths plan.steps) 0 plan.patterns
-
--- the lengths with a pattern of this size more
-module _ (plan : Plan) (p : List ℕ) (size : ℕ) (is : length p ≡ size) where
-  pub shorter_first : plan.patterns ≡ 0 → size ≡ shortest (patterns_of plan ++ p ∷ [])
-  unfolding shortest
-  shorter_first none = rw none (sym is)
-
-  pub shorter_more : 0 < plan.patterns → min plan.shortest size ≡ shortest (patterns_of plan ++ p ∷ [])
-  shorter_more some = omega (arith, plan.least, is, shortest_more (patterns_of plan) p (omega (arith, length_plan plan)))
-
-  pub longer_more : max plan.longest size ≡ longest (patterns_of plan ++ p ∷ [])
-  longer_more = omega (arith, plan.most, is, longest_more (patterns_of plan) p)
+  pub ended_new : bit_or plan.ends ((1 * 2 ^ (from + length p - 1)) % 2 ^ 64) ≡ steps_where is_last plan'
+  ended_new = rw (g.behind, plan.ended, ← plan.counted) (ended_more (patterns_of plan) p g.room.some room) ∙ ap (steps_where is_last) (sym view)

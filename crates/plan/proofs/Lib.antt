@@ -1,4 +1,5 @@
 -- The modules of the proofs, lowest first.
+pub mod Pushing
 pub mod Columns
 pub mod Building
 pub mod Soundness

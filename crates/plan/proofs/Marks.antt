@@ -1,46 +1,41 @@
--- The loop of `marks`: one bit of the closing fits for each pattern, the last pattern first.
-use Rattle.std.proofs.Common.{◌≡◌, ℕ, suc, ◌+◌, ◌*◌, ◌/◌, ◌%◌, ◌^◌, ◌<◌, Bool, false, cond, List, ◌∷◌, map, length, get_or, drop, sym, ap, ◌∙◌, zero-add, arith}
+-- The marks: one bit of the closing fits for each pattern.
+use Rattle.std.proofs.Common.{◌≡◌, ℕ, ◌*◌, ◌/◌, ◌%◌, ◌^◌, ◌<◌, Bool, map, length, get_or, sym, ap, ◌∙◌, zero-add, arith}
+use mathlib.Core.List.{reverse}
 use lib.Bits.{bit_and, bit_or}
 use lib.Lanes.{mask_l}
-use Rattle.std.specs.List.{range_with_len}
+use Rattle.std.specs.List.{fold, range_with_len}
 use Rattle.std.proofs.lemmas.List.FromFn.{length-map-range_with_len, get_or-map-range_with_len}
-use Rattle.std.proofs.lemmas.List.{length-drop, drop_all, drop_more}
-use Rattle.pattern.specs.Fits.{bit, first_step}
-use Rattle.pattern.proofs.Bitwise.{push_bit, bit_number}
-use Rattle.pattern.proofs.Marks.{first_lt}
+use Rattle.std.proofs.lemmas.List.{length-map, length-take, get_or-map, same_lists}
+use Rattle.std.proofs.lemmas.Simd.{map-map}
+use Rattle.pattern.specs.Fits.{bit, first_step, fitting}
+use Rattle.pattern.proofs.Bitwise.{bit_number}
+use Rattle.plan.specs.Rows.{items, firsts_of}
 use Rattle.plan.specs.Views.{patterns_of}
 use Rattle.plan.specs.declared.Plan.{Plan}
+use Rattle.plan.specs.declared.span.Span.{Span}
+use Rattle.plan.proofs.Pushing.{pushed}
 use Rattle.plan.proofs.Building.{length_plan}
-use Rattle.plan.proofs.Soundness.{at_most}
 
--- the bits of the set at the first steps of the patterns
-abbrev pub picked : Plan → ℕ → List Bool
-picked plan closing = map (λ j. bit closing (first_step (patterns_of plan) j)) (range_with_len 0 (length (patterns_of plan)))
+module _ (plan : Plan) (f : ℕ × ℕ) where
+  -- the bits of the closing fits at the first steps of the patterns
+  picked : map (λ (s : Span). bit f.0 s.first) (items plan.spans) ≡ map (λ j. bit f.0 (first_step (patterns_of plan) j)) (range_with_len 0 (length (patterns_of plan)))
+  picked = same_lists _ _ (long ∙ sym (length-map-range_with_len (λ j. bit f.0 (first_step (patterns_of plan) j)) 0 (length (patterns_of plan)))) at
+    where
+      long : length (map (λ (s : Span). bit f.0 s.first) (items plan.spans)) ≡ length (patterns_of plan)
+      long = length-map (items plan.spans) (λ (s : Span). bit f.0 s.first) ∙ sym (length_plan plan)
 
-pub first_below : (plan : Plan) (j : ℕ) → j < plan.patterns → get_or plan.firsts j 0 < 64
-first_below plan j less =
-    let l : j < length (patterns_of plan) = omega (arith, length_plan plan) in
-    omega (arith, plan.placed j l, first_lt (patterns_of plan) j plan.nonempty l, at_most plan)
+      same : map (λ (s : Span). bit f.0 s.first) (items plan.spans) ≡ map (bit f.0) (firsts_of (items plan.spans))
+      same = sym (map-map (bit f.0) (λ (s : Span). s.first) (items plan.spans))
 
-module _ (plan : Plan) (closing : ℕ) where
-  length_picked : length (picked plan closing) ≡ plan.patterns
-  length_picked = length-map-range_with_len (λ j. bit closing (first_step (patterns_of plan) j)) 0 (length (patterns_of plan)) ∙ length_plan plan
+      at : (k : ℕ) (d : Bool) → k < length (map (λ (s : Span). bit f.0 s.first) (items plan.spans)) → get_or (map (λ (s : Span). bit f.0 s.first) (items plan.spans)) k d ≡ get_or (map (λ j. bit f.0 (first_step (patterns_of plan) j)) (range_with_len 0 (length (patterns_of plan)))) k d
+      at k d less =
+          let l : k < length (patterns_of plan) = omega (arith, long) in
+          let m : k < length (firsts_of (items plan.spans)) = omega (arith, length-map (items plan.spans) (λ (s : Span). s.first), length_plan plan) in
+          rw same (get_or-map (bit f.0) (firsts_of (items plan.spans)) k 0 d m)
+          ∙ ap (bit f.0) (plan.placed k l)
+          ∙ sym (get_or-map-range_with_len (λ j. bit f.0 (first_step (patterns_of plan) j)) 0 (length (patterns_of plan)) k k d l (zero-add k))
 
-  picked_at : (j : ℕ) → j < plan.patterns → get_or (picked plan closing) j false ≡ bit closing (get_or plan.firsts j 0)
-  picked_at j less =
-      let l : j < length (patterns_of plan) = omega (arith, length_plan plan) in
-      get_or-map-range_with_len (λ j. bit closing (first_step (patterns_of plan) j)) 0 (length (patterns_of plan)) j j false l (zero-add j)
-      ∙ ap (bit closing) (sym (plan.placed j l))
-
-  pub marks_begin : 0 ≡ mask_l (drop plan.patterns (picked plan closing))
-  marks_begin = rw (drop_all plan.patterns (picked plan closing) (omega (arith, length_picked)))
-
-  pub marks_step : (m i j : ℕ) → i ≡ suc j → j < plan.patterns → m ≡ mask_l (drop i (picked plan closing)) → bit_or ((m * 2) % 2 ^ 32) (bit_and (closing / 2 ^ get_or plan.firsts j 0) 1) ≡ mask_l (drop j (picked plan closing))
-  marks_step m i j next less is =
-      let l : j < length (picked plan closing) = omega (arith, length_picked) in
-      let long : length (drop i (picked plan closing)) < 32 = simp length-drop (omega (arith, length_picked, plan.few)) in
-      let low : (closing / 2 ^ get_or plan.firsts j 0) % 2 ≡ cond (get_or (picked plan closing) j false) 1 0 = bit_number closing (get_or plan.firsts j 0) ∙ ap (λ (b : Bool). cond b 1 0) (sym (picked_at j less)) in
-      let same : i ≡ j + 1 = omega arith in
-      rw is (push_bit 32 (drop i (picked plan closing)) (closing / 2 ^ get_or plan.firsts j 0) (get_or (picked plan closing) j false) long low)
-      ∙ ap (λ (x : ℕ). mask_l (get_or (picked plan closing) j false ∷ drop x (picked plan closing))) same
-      ∙ ap mask_l (sym (drop_more (picked plan closing) j false l))
+  pub marks_are : fold (λ m (s : Span). bit_or ((m * 2) % 2 ^ 32) (bit_and (f.0 / 2 ^ s.first) 1)) 0 (reverse (items plan.spans)) ≡ (fitting (patterns_of plan)).marks f
+  marks_are =
+      pushed 32 (λ (s : Span). f.0 / 2 ^ s.first) (λ (s : Span). bit f.0 s.first) (λ s. bit_number f.0 s.first) (items plan.spans) (omega (arith, length-take plan.spans.count plan.spans.places, plan.spans.within))
+      ∙ ap mask_l picked

@@ -1,24 +1,25 @@
 -- What holds of the patterns of every plan, from the facts that the plan carries.
 use Rattle.std.proofs.Common.{◌≡◌, ℕ, zero, suc, ◌^◌, ◌<◌, ◌≤◌, false, List, [], ◌∷◌, map, length, get_or, refl, ap, ◌∙◌, arith}
 use lib.Lanes.{mask_l}
-use Rattle.std.proofs.lemmas.List.{map-append}
+use Rattle.std.proofs.lemmas.List.{map-append, length-take}
 use Rattle.pattern.specs.Patterns.{admits}
 use Rattle.pattern.specs.Fits.{bit, tails, rests, steps_where, admits_first, admit_of}
 use Rattle.pattern.proofs.Bitwise.{bit_above, mask_l_append}
 use Rattle.plan.specs.Sets.{Within}
-use Rattle.plan.specs.Views.{patterns_of, Sound}
+use Rattle.plan.specs.Rows.{items}
+use Rattle.plan.specs.Views.{letters_of, patterns_of, Sound}
 use Rattle.plan.specs.declared.Plan.{Plan}
 use Rattle.plan.proofs.Building.{length_plan}
 
 pub at_most : (plan : Plan) → length (rests (patterns_of plan)) ≤ 64
-at_most plan = omega (arith, plan.counted, plan.small)
+at_most plan = omega (arith, plan.counted, length-take plan.steps.count plan.steps.places, plan.steps.within)
 
-pub sound : (plan : Plan) → Sound plan.letters (patterns_of plan)
+pub sound : (plan : Plan) → Sound (letters_of plan) (patterns_of plan)
 sound plan =
     record {
-      some_letter = plan.lettered;
-      letters = plan.alphabet;
-      patterns = omega (arith, length_plan plan, plan.few);
+      some_letter = plan.alphabet.some;
+      letters = plan.alphabet.few;
+      patterns = omega (arith, length_plan plan, length-take plan.spans.count plan.spans.places, plan.spans.within);
       well = record { nonempty = plan.nonempty; filled = plan.filled; few = at_most plan };
       within = plan.within;
     }

@@ -1,25 +1,25 @@
 -- What the values of the code mean: the patterns of a plan, and what reading answers.
-use Rattle.std.specs.Prelude.{◌≡◌, ℕ, ◌+◌, ◌<◌, ◌≤◌, cond, List, [], ◌∷◌, ◌++◌, length, take, Ok, Err, Result}
-use Rattle.std.specs.Borrow.{Bor}
+use Rattle.std.specs.Prelude.{◌≡◌, ℕ, ◌+◌, ◌<◌, ◌≤◌, cond, List, [], ◌∷◌, ◌++◌, length, Ok, Err, Result}
 use Rattle.notation.specs.declared.LineFault.{LineFault}
 use Rattle.notation.specs.declared.PlanRefusal.{PlanRefusal}
 use Rattle.notation.specs.declared.PlanRefusal.TheVariants.{Letters}
 use Rattle.notation.specs.Reading.{Found, found, faulty, between}
 use Rattle.notation.specs.Grammar.{Writes, Limits}
 use Rattle.notation.specs.Refusals.{Reason}
-use Rattle.pattern.specs.Fits.{plan_of}
 use Rattle.pattern.specs.Laws.{Wellformed}
 use Rattle.plan.specs.Sets.{Steps, Within}
-use Rattle.plan.specs.declared.lines.Pattern.{Pattern}
+use Rattle.plan.specs.Rows.{items, plan_in}
+use Rattle.plan.specs.declared.row.Row.{Row}
+use Rattle.plan.specs.declared.steps.Scanner.{Scanner}
 use Rattle.plan.specs.declared.Plan.{Plan}
 
 -- how many letters the alphabet of a plan has
 abbrev pub letters_of : Plan → ℕ
-letters_of plan = plan.letters
+letters_of plan = plan.alphabet.letters
 
 -- the patterns of a plan, each a list of steps
 abbrev pub patterns_of : Plan → List (List ℕ)
-patterns_of plan = plan_of plan.patterns plan.firsts plan.lengths plan.steps
+patterns_of plan = plan_in (items plan.spans) (items plan.steps)
 
 -- what holds of the patterns of every plan over K letters
 pub record Sound (K : ℕ) (plan : List (List ℕ)) : Type 0 where
@@ -32,24 +32,15 @@ pub record Sound (K : ℕ) (plan : List (List ℕ)) : Type 0 where
 
 -- ---- what reading answers
 
--- a step, or a fault
-abbrev pub found_set : Result (ℕ × Bor (List ℕ)) LineFault → Found ℕ
-found_set (Ok p) = found p.0 p.1.now
-found_set (Err f) = faulty f
+-- a step and the text that is left behind it, or a fault
+abbrev pub found_set : Scanner → Result ℕ LineFault → Found ℕ
+found_set left (Ok set) = found set left.rest.now
+found_set left (Err f) = faulty f
 
--- the steps of a pattern that was read
-abbrev pub steps_in : Pattern → List ℕ
-steps_in p = take p.count p.steps
-
--- a line, or a fault
-abbrev pub found_line : Result (Pattern × Bor (List ℕ)) LineFault → Found (List ℕ)
-found_line (Ok p) = found (steps_in p.0) p.1.now
-found_line (Err f) = faulty f
-
--- a line that was read has so many steps at most
-abbrev pub AtMost : ℕ → Result (Pattern × Bor (List ℕ)) LineFault → Type 0
-AtMost room (Ok p) = p.0.count ≤ room
-AtMost room (Err f) = Unit {0}
+-- the steps of a line and the text that is left behind it, or a fault
+abbrev pub found_line : Scanner → Result (Row ℕ 64) LineFault → Found (List ℕ)
+found_line left (Ok steps) = found (items steps) left.rest.now
+found_line left (Err f) = faulty f
 
 -- the patterns of the plan, or the refusal
 abbrev pub planned : Result Plan PlanRefusal → Result (List (List ℕ)) PlanRefusal
@@ -75,13 +66,13 @@ empty_plan K = cond (between 1 32 K) (Ok []) (Err Letters)
 -- there is room for the pattern, and its steps are sets of the plan's letters
 pub record Room (plan : Plan) (p : List ℕ) : Type 0 where
   pub some : 0 < length p
-  pub steps : plan.count + length p ≤ 64
-  pub patterns : plan.patterns < 32
-  pub sets : Steps plan.letters p
+  pub steps : length (items plan.steps) + length p ≤ 64
+  pub patterns : length (items plan.spans) < 32
+  pub sets : Steps (letters_of plan) p
 
 -- the plan with the pattern after the others
 pub record More (plan : Plan) (p : List ℕ) (new : Plan) : Type 0 where
-  pub letters : new.letters ≡ plan.letters
-  pub patterns : new.patterns ≡ plan.patterns + 1
-  pub count : new.count ≡ plan.count + length p
+  pub letters : new.alphabet ≡ plan.alphabet
+  pub patterns : length (items new.spans) ≡ length (items plan.spans) + 1
+  pub count : length (items new.steps) ≡ length (items plan.steps) + length p
   pub more : patterns_of new ≡ patterns_of plan ++ (p ∷ [])

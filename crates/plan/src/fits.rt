@@ -14,14 +14,14 @@ impl Plan {
         ensures answer { result ≡ letters_of self.now }
         ensures sound { Sound result (patterns_of self.now) }
     {
-        self.letters
+        self.alphabet.letters()
     }
 
     /// How many patterns there are.
     pub fn patterns(&self) -> u8
         ensures answer { result ≡ length (patterns_of self.now) }
     {
-        self.patterns
+        self.spans.len() as u8
     }
 
     /// The length of the shortest pattern, 0 where there is none.
@@ -43,7 +43,7 @@ impl Plan {
         ensures answer { result ≡ admit_of (patterns_of self.now) letter }
         ensures none { letters_of self.now ≤ letter → result ≡ 0 }
     {
-        if letter < self.letters {
+        if letter < self.alphabet.letters() {
             self.admit[letter as usize]
         } else {
             0
@@ -80,11 +80,10 @@ impl Plan {
         ensures word { (t : List ℕ) → 0 < length t → fits ≡ fits_of (patterns_of self.now) t → result ≡ marks_of (patterns_of self.now) t }
     {
         let (closing, _) = fits;
-        let mut marks: u32 = 0;
-        for j in (0..self.patterns as usize).rev() {
-            marks = (marks << 1) | ((closing >> self.firsts[j]) & 1) as u32;
-        }
-        marks
+        self.spans.as_slice().iter().rev().fold(
+            0,
+            |marks, span| (marks << 1) | ((closing >> span.first) & 1) as u32,
+        )
     }
 
     /// Whether a text with these fits is a proper prefix of an image.

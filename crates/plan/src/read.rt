@@ -4,14 +4,12 @@ ghost use Rattle.notation.specs.Reading.{read_plan, whole as whole_text};
 ghost use Rattle.plan.specs.Views.{planned, Over, Right, empty_plan};
 
 use crate::Plan;
-use crate::lines::line;
+use crate::alphabet::Alphabet;
+use crate::steps::Scanner;
 use notation::{LineFault, PlanRefusal};
 
 /// The most bytes that a text may have.
 const MOST_BYTES: usize = 65536;
-
-/// The most letters that an alphabet may have.
-const MOST_LETTERS: u8 = 32;
 
 /// The most lines that a text may have.
 const MOST_LINES: usize = 32;
@@ -35,11 +33,7 @@ impl Plan {
         ensures answer { planned result ≡ empty_plan letters }
         ensures letters { Over letters result }
     {
-        if letters == 0 || letters > MOST_LETTERS {
-            Err(PlanRefusal::Letters)
-        } else {
-            Ok(Plan::bare(letters))
-        }
+        Ok(Plan::bare(Alphabet::new(letters)?))
     }
 
     /// The plan that the text writes over so many letters, or the first question that it answers no.
@@ -52,19 +46,19 @@ impl Plan {
         if !whole(text) {
             return Err(PlanRefusal::Text);
         }
-        let mut rest = text;
-        while !rest.is_empty() {
-            let number = plan.patterns as usize + 1;
+        let mut lines = Scanner {
+            alphabet: plan.alphabet,
+            rest: text,
+        };
+        while !lines.is_empty() {
+            let number = plan.spans.len() + 1;
             if number > MOST_LINES {
                 return Err(PlanRefusal::Line(number, LineFault::TooManyLines));
             }
-            match line(letters, MOST_STEPS - plan.count as usize, rest) {
-                Ok((pattern, after)) => {
-                    plan = plan.with(&pattern.steps[0..pattern.count]);
-                    rest = after;
-                }
-                Err(fault) => return Err(PlanRefusal::Line(number, fault)),
-            }
+            let pattern = lines
+                .line(MOST_STEPS - plan.steps.len())
+                .map_err(|fault| PlanRefusal::Line(number, fault))?;
+            plan = plan.with(pattern.as_slice());
         }
         Ok(plan)
     }

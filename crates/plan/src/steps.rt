@@ -1,95 +1,79 @@
 //! The steps of a pattern from text, sign by sign.
-ghost use Rattle.std.specs.Prelude.{◌≡◌, ◌≤◌};
-ghost use Rattle.notation.specs.Reading.{sign_of, letter_sign, set_of, bracket_of, step_of, every as every_of};
+ghost use Rattle.std.specs.Prelude.{◌≡◌, ◌==◌, length};
+ghost use Rattle.notation.specs.Reading.{set_of, bracket_of, step_of};
 ghost use Rattle.plan.specs.Views.{found_set};
 
+use crate::alphabet::Alphabet;
 use notation::{LineFault, Sign};
 
-/// The sign of a letter, if it is one of the first `letters`.
-fn letter(letters: u8, a: u8) -> Sign
-    ensures { result ≡ letter_sign letters a }
-{
-    if a < letters {
-        Sign::Letter(a)
-    } else {
-        Sign::Other
+/// A text over an alphabet that is read from its front: the rest of it is left.
+#[derive(Drop)]
+pub(crate) struct Scanner<'a> {
+    pub(crate) alphabet: Alphabet,
+    pub(crate) rest: &'a [u8],
+}
+
+impl<'a> Scanner<'a> {
+    /// Whether nothing is left.
+    pub(crate) fn is_empty(&self) -> bool
+        ensures { result ≡ (length self.now.rest.now == 0) }
+    {
+        self.rest.is_empty()
     }
-}
 
-/// What the byte stands for. No other place knows which character is which sign.
-fn sign(letters: u8, byte: u8) -> Sign
-    ensures { result ≡ sign_of letters byte }
-{
-    match char::from(byte) {
-        'A'..='Z' => letter(letters, byte - b'A'),
-        'a'..='f' => letter(letters, byte - b'a' + 26),
-        '.' => Sign::Dot,
-        '[' => Sign::Open,
-        ']' => Sign::Close,
-        '^' => Sign::Caret,
-        _ => Sign::Other,
-    }
-}
-
-/// The set of all letters.
-fn every(letters: u8) -> u32
-    requires { letters ≤ 32 }
-    ensures { result ≡ every_of letters }
-{
-    ((1u64 << letters) - 1) as u32
-}
-
-/// The set of the letter signs up to the closing bracket, and the text behind that.
-fn set<'a>(letters: u8, text: &'a [u8]) -> Result<(u32, &'a [u8]), LineFault>
-    requires { letters ≤ 32 }
-    ensures { found_set result ≡ set_of letters 0 text.now }
-{
-    let mut set = 0;
-    let mut rest = text;
-    while let [byte, tail @ ..] = rest {
-        match sign(letters, *byte) {
-            Sign::Letter(a) => set |= 1 << a,
-            Sign::Close => return if set == 0 {
-                Err(LineFault::BadSet)
-            } else {
-                Ok((set, tail))
-            },
-            _ => return Err(LineFault::BadSet),
+    /// The set of the letter signs up to the closing bracket, which is read too.
+    fn set(&mut self) -> Result<u32, LineFault>
+        ensures same { self.new.alphabet ≡ self.old.alphabet }
+        ensures answer { found_set self.new result ≡ set_of self.old.alphabet.letters 0 self.old.rest.now }
+    {
+        let mut set = 0;
+        while let [byte, tail @ ..] = self.rest {
+            self.rest = tail;
+            match self.alphabet.sign(*byte) {
+                Sign::Letter(a) => set |= 1 << a,
+                Sign::Close => return if set == 0 {
+                    Err(LineFault::BadSet)
+                } else {
+                    Ok(set)
+                },
+                _ => return Err(LineFault::BadSet),
+            }
         }
-        rest = tail;
+        Err(LineFault::BadSet)
     }
-    Err(LineFault::BadSet)
-}
 
-/// The set that is written behind an opening bracket, and the text behind it.
-fn bracket<'a>(letters: u8, text: &'a [u8]) -> Result<(u32, &'a [u8]), LineFault>
-    requires { letters ≤ 32 }
-    ensures { found_set result ≡ bracket_of letters text.now }
-{
-    let [b'^', inner @ ..] = text else {
-        return set(letters, text);
-    };
-    let (all_but, rest) = set(letters, inner)?;
-    let all = every(letters);
-    if all_but == all {
-        Err(LineFault::NoLetter)
-    } else {
-        Ok((all - all_but, rest))
+    /// The set that is written behind an opening bracket.
+    fn bracket(&mut self) -> Result<u32, LineFault>
+        ensures same { self.new.alphabet ≡ self.old.alphabet }
+        ensures answer { found_set self.new result ≡ bracket_of self.old.alphabet.letters self.old.rest.now }
+    {
+        let [b'^', inner @ ..] = self.rest else {
+            return self.set();
+        };
+        self.rest = inner;
+        let all_but = self.set()?;
+        let all = self.alphabet.every();
+        if all_but == all {
+            Err(LineFault::NoLetter)
+        } else {
+            Ok(all - all_but)
+        }
     }
-}
 
-/// The set of letters that the step at the front of the text admits, and the text behind it.
-pub(crate) fn step<'a>(letters: u8, text: &'a [u8]) -> Result<(u32, &'a [u8]), LineFault>
-    requires { letters ≤ 32 }
-    ensures { found_set result ≡ step_of letters text.now }
-{
-    let [first, rest @ ..] = text else {
-        return Err(LineFault::BadSign);
-    };
-    match sign(letters, *first) {
-        Sign::Letter(a) => Ok((1 << a, rest)),
-        Sign::Dot => Ok((every(letters), rest)),
-        Sign::Open => bracket(letters, rest),
-        _ => Err(LineFault::BadSign),
+    /// The set of letters that the step at the front of the text admits.
+    pub(crate) fn step(&mut self) -> Result<u32, LineFault>
+        ensures same { self.new.alphabet ≡ self.old.alphabet }
+        ensures answer { found_set self.new result ≡ step_of self.old.alphabet.letters self.old.rest.now }
+    {
+        let [first, rest @ ..] = self.rest else {
+            return Err(LineFault::BadSign);
+        };
+        self.rest = rest;
+        match self.alphabet.sign(*first) {
+            Sign::Letter(a) => Ok(1 << a),
+            Sign::Dot => Ok(self.alphabet.every()),
+            Sign::Open => self.bracket(),
+            _ => Err(LineFault::BadSign),
+        }
     }
 }

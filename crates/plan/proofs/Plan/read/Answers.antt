@@ -1,24 +1,29 @@
 -- The text of a plan is read as the definition reads it.
-use Rattle.std.proofs.Common.{◌≡◌, ℕ, ◌+◌, ◌-◌, ◌<◌, true, List, [], length, take, Ok, Err, sym, ap, ◌∙◌, arith, true-eqb, false-eqb}
-use native.Mathlib.Nat.{sub-zero}
+use Rattle.std.proofs.Common.{◌≡◌, ℕ, ◌+◌, ◌-◌, ◌<◌, true, List, [], length, Ok, Err, sym, subst, ap, ap₂, ◌∙◌, arith, rules, true-eqb, false-eqb}
 use Rattle.std.proofs.lemmas.Result.{err_from_is_err_and}
+use Rattle.std.proofs.lemmas.List.{length-take}
 use Rattle.notation.specs.declared.PlanRefusal.TheVariants.{Text, Line}
 use Rattle.notation.specs.declared.LineFault.{LineFault}
-use Rattle.notation.specs.Reading.{between, lines_of, read_plan}
+use Rattle.notation.specs.Reading.{found, between, line_of, lines_of, read_plan}
 use Rattle.notation.proofs.Turns.{lines_end, lines_full, lines_wrong, lines_again, read_text, read_lines}
-use Rattle.plan.specs.Views.{patterns_of}
+use Rattle.plan.specs.Rows.{items}
+use Rattle.plan.specs.Views.{letters_of, patterns_of, found_line}
+use Rattle.plan.specs.declared.Plan.{Plan}
+use Rattle.plan.specs.declared.alphabet.Alphabet.{Alphabet}
 use Rattle.plan.proofs.Building.{length_plan}
-use Rattle.plan.proofs.Reading.{right, emptied, refused, begun, room}
+use Rattle.plan.proofs.Reading.{right, emptied, refused, begun, lines, room, ok_before, err_before}
 use Rattle.plan.proofs.Plan.read.Goals as goal
-use Rattle.plan.proofs.Plan.read.Goals.{In_ok-plan, Else-not-whole}
+use Rattle.plan.proofs.Plan.read.Goals.{After-line, In_ok-pattern}
 
--- the alphabet has from 1 to 32 letters
-inside : (c : In_ok-plan) → between 1 32 c.args.letters ≡ true
-inside c = (emptied c.args.letters (patterns_of c.in_ok-plan.plan) c.in_ok-plan.ensures.answer).0
+-- the line is read over the letters that were asked for
+next : (c : After-line) → found_line c.line.new.self c.line.result ≡ line_of c.args.letters (64 - length (items c.loop-lines.plan.steps)) c.loop-lines.lines.rest.now
+next c = c.line.ensures.answer ∙ ap₂ (λ (K n : ℕ). line_of K (64 - n) c.loop-lines.lines.rest.now) c.loop-lines.invariant.2 c.len-in-loop-lines.ensures.value
 
--- the lines are read
-lines : (c : Else-not-whole) → lines_of c.args.letters 32 64 [] c.args.text.now ≡ read_plan c.args.letters c.args.text.now
-lines c = sym (read_lines c.args.letters c.args.text.now (inside (goal.at.loop-rest-init c).In_ok-plan) (sym c.if-not-whole.ensures))
+-- and it is a pattern
+good : (c : In_ok-pattern) → found_line c.line.new.self c.line.result ≡ line_of c.args.letters (64 - length (items c.loop-lines.plan.steps)) c.loop-lines.lines.rest.now → found (items c.in_ok-pattern.pattern) c.line.new.self.rest.now ≡ line_of c.args.letters (64 - length (items c.loop-lines.plan.steps)) c.loop-lines.lines.rest.now
+good c e =
+    let is : c.line.result ≡ Ok c.in_ok-pattern.pattern = ok_before c.line.result c.map_err.result _ _ c.map_err.ensures.cases c.map_err.ensures.variant c.in_ok-pattern.was in
+    subst (λ r. found_line c.line.new.self r ≡ line_of c.args.letters (64 - length (items c.loop-lines.plan.steps)) c.loop-lines.lines.rest.now) is e
 
 pub returns-in_err-plan : goal.returns-in_err-plan
 returns-in_err-plan c =
@@ -28,63 +33,67 @@ returns-in_err-plan c =
 
 pub returns-then-not-whole : goal.returns-then-not-whole
 returns-then-not-whole c =
-    let answer = sym (read_text c.args.letters c.args.text.now (inside (goal.at.returns-then-not-whole c).In_ok-plan) (sym c.if-not-whole.ensures)) in
+    let answer = sym (read_text c.args.letters c.args.text.now (emptied c.args.letters (patterns_of c.in_ok-plan.plan) c.in_ok-plan.ensures.answer).0 (sym c.if-not-whole.ensures)) in
     record { answer = answer; letters = tt; right = right c.args.letters c.args.text.now (Err Text) answer }
 
-pub loop-rest-init : goal.loop-rest-init
-loop-rest-init c =
+pub loop-lines-init : goal.loop-lines-init
+loop-lines-init c =
     let made = c.in_ok-plan.ensures in
-    (begun c.args.letters c.args.text.now c.in_ok-plan.plan made.answer, made.letters)
+    (begun c.args.letters c.args.text.now c.in_ok-plan.plan made.answer, made.letters, made.letters)
 
 pub returns-then-number-gt-MOST_LINES : goal.returns-then-number-gt-MOST_LINES
 returns-then-number-gt-MOST_LINES c =
-    let plan = c.loop-rest.plan in
-    let some : 0 < length c.loop-rest.rest.now = omega (arith, false-eqb _ 0 c.loop-rest-test.ensures) in
+    let plan = c.loop-lines.plan in
+    let count : c.len.result ≡ length (patterns_of plan) = c.len.ensures.value ∙ sym (length_plan plan) in
+    let some : 0 < length c.loop-lines.lines.rest.now = omega (arith, false-eqb _ 0 c.loop-lines-test.ensures) in
     let answer =
-    ap (λ (n : ℕ). Err (Line (n + 1) LineFault.TooManyLines)) (sym (length_plan plan))
-    ∙ sym (lines_full c.args.letters (64 - plan.count) (patterns_of plan) (32 - plan.patterns) c.loop-rest.rest.now some (omega arith))
-    ∙ c.loop-rest.invariant.0 ∙ lines (goal.at.returns-then-number-gt-MOST_LINES c).Else-not-whole
+    ap (λ (n : ℕ). Err (Line (n + 1) LineFault.TooManyLines)) count
+    ∙ sym (lines_full c.args.letters (64 - length (items plan.steps)) (patterns_of plan) (32 - length (items plan.spans)) c.loop-lines.lines.rest.now some (omega (arith, c.len.ensures.value)))
+    ∙ c.loop-lines.invariant.0 ∙ lines c.args.letters c.args.text.now c.in_ok-plan.plan c.in_ok-plan.ensures.answer c.if-not-whole.ensures
     in
     record { answer = answer; letters = tt; right = right c.args.letters c.args.text.now (Err (Line _ LineFault.TooManyLines)) answer }
 
-pub returns-in-Err : goal.returns-in-Err
-returns-in-Err c =
-    let plan = c.loop-rest.plan in
-    let some : 0 < length c.loop-rest.rest.now = omega (arith, false-eqb _ 0 c.loop-rest-test.ensures) in
+pub returns-in_err-pattern : goal.returns-in_err-pattern
+returns-in_err-pattern c =
+    let plan = c.loop-lines.plan in
+    let count : c.len.result ≡ length (patterns_of plan) = c.len.ensures.value ∙ sym (length_plan plan) in
+    let some : 0 < length c.loop-lines.lines.rest.now = omega (arith, false-eqb _ 0 c.loop-lines-test.ensures) in
+    let was = err_before c.line.result c.map_err.result _ (λ f. Line (c.len.result + 1) f) c.in_err-pattern.field-0.0 c.map_err.ensures.cases (λ e d h. search rules) c.in_err-pattern.was in
+    let fault = was.0 in
+    let wrong = subst (λ r. found_line c.line.new.self r ≡ line_of c.args.letters (64 - length (items plan.steps)) c.loop-lines.lines.rest.now) was.1 (next (goal.at.returns-in_err-pattern c).After-line) in
     let answer =
-    ap (λ (n : ℕ). Err (Line (n + 1) c.in-Err.fault)) (sym (length_plan plan))
-    ∙ sym (lines_wrong c.args.letters (64 - plan.count) (patterns_of plan) (32 - plan.patterns) c.loop-rest.rest.now c.in-Err.fault some (omega arith) c.in-Err.ensures.answer)
-    ∙ c.loop-rest.invariant.0 ∙ lines (goal.at.returns-in-Err c).Else-not-whole
+    ap (λ (n : ℕ). Err (Line (n + 1) fault)) count
+    ∙ sym (lines_wrong c.args.letters (64 - length (items plan.steps)) (patterns_of plan) (32 - length (items plan.spans)) c.loop-lines.lines.rest.now fault some (omega (arith, c.len.ensures.value)) wrong)
+    ∙ c.loop-lines.invariant.0 ∙ lines c.args.letters c.args.text.now c.in_ok-plan.plan c.in_ok-plan.ensures.answer c.if-not-whole.ensures
     in
-    record { answer = answer; letters = tt; right = right c.args.letters c.args.text.now (Err (Line _ c.in-Err.fault)) answer }
-
--- the whole of the pattern is taken
-front : (n : ℕ) (steps : List ℕ) → take (n - 0) steps ≡ take n steps
-front n steps = ap (λ (m : ℕ). take m steps) (sub-zero n)
+    let p = err_from_is_err_and c.from_residual-in_err-pattern.result c.from_residual-in_err-pattern.ensures.1 in
+    rw (p.1, p.2, was.2) (record { answer = answer; letters = tt; right = right c.args.letters c.args.text.now (Err (Line _ fault)) answer })
 
 pub with-plan-requires : goal.with-plan-requires
 with-plan-requires c =
-    let p = c.in-Ok.pattern in
-    room c.args.letters c.loop-rest.plan c.loop-rest.rest.now (take p.count p.steps) (take (p.count - 0) p.steps) c.in-Ok.after.now c.loop-rest.invariant.1 (omega arith) (front p.count p.steps) c.in-Ok.ensures.answer
+    let plan = c.loop-lines.plan in
+    let pattern = c.in_ok-pattern.pattern in
+    room c.args.letters plan c.loop-lines.lines.rest.now (items pattern) c.as_slice.result.now c.line.new.self.rest.now c.loop-lines.invariant.1 (omega (arith, c.len.ensures.value)) (omega (arith, length-take plan.steps.count plan.steps.places, plan.steps.within)) c.as_slice.ensures (good (goal.at.with-plan-requires c).In_ok-pattern (next (goal.at.with-plan-requires c).After-line))
 
-pub loop-rest-preserved : goal.loop-rest-preserved
-loop-rest-preserved c =
-    let plan = c.loop-rest.plan in
-    let next = c.with-plan.result in
-    let p = c.in-Ok.pattern in
-    let some : 0 < length c.loop-rest.rest.now = omega (arith, false-eqb _ 0 c.loop-rest-test.ensures) in (
-      lines_again c.args.letters plan.patterns next.patterns plan.count next.count (patterns_of plan) (patterns_of next) c.loop-rest.rest.now (take p.count p.steps) (take (p.count - 0) p.steps) c.in-Ok.after.now
-          some (omega arith) c.in-Ok.ensures.answer (front p.count p.steps) c.with-plan.ensures.patterns c.with-plan.ensures.count c.with-plan.ensures.more
-          ∙ c.loop-rest.invariant.0,
-      c.with-plan.ensures.letters ∙ c.loop-rest.invariant.1,
+pub loop-lines-preserved : goal.loop-lines-preserved
+loop-lines-preserved c =
+    let plan = c.loop-lines.plan in
+    let more = c.with-plan.result in
+    let pattern = c.in_ok-pattern.pattern in
+    let some : 0 < length c.loop-lines.lines.rest.now = omega (arith, false-eqb _ 0 c.loop-lines-test.ensures) in (
+      lines_again c.args.letters (length (items plan.spans)) (length (items more.spans)) (length (items plan.steps)) (length (items more.steps)) (patterns_of plan) (patterns_of more) c.loop-lines.lines.rest.now (items pattern) c.as_slice.result.now c.line.new.self.rest.now
+          some (omega (arith, c.len.ensures.value)) (good (goal.at.loop-lines-preserved c).In_ok-pattern (next (goal.at.loop-lines-preserved c).After-line)) c.as_slice.ensures c.with-plan.ensures.patterns c.with-plan.ensures.count c.with-plan.ensures.more
+          ∙ c.loop-lines.invariant.0,
+      ap (λ (a : Alphabet). a.letters) c.with-plan.ensures.letters ∙ c.loop-lines.invariant.1,
+      ap (λ (a : Alphabet). a.letters) c.line.ensures.same ∙ c.loop-lines.invariant.2,
     )
 
 pub returns : goal.returns
 returns c =
-    let plan = c.loop-rest.plan in
-    let none : length c.loop-rest.rest.now ≡ 0 = omega (arith, true-eqb _ 0 c.loop-rest-test.ensures) in
+    let plan = c.loop-lines.plan in
+    let none : length c.loop-lines.lines.rest.now ≡ 0 = omega (arith, true-eqb _ 0 c.loop-lines-test.ensures) in
     let answer =
-    sym (lines_end c.args.letters (64 - plan.count) (patterns_of plan) (32 - plan.patterns) c.loop-rest.rest.now none)
-    ∙ c.loop-rest.invariant.0 ∙ lines (goal.at.returns c).Else-not-whole
+    sym (lines_end c.args.letters (64 - length (items plan.steps)) (patterns_of plan) (32 - length (items plan.spans)) c.loop-lines.lines.rest.now none)
+    ∙ c.loop-lines.invariant.0 ∙ lines c.args.letters c.args.text.now c.in_ok-plan.plan c.in_ok-plan.ensures.answer c.if-not-whole.ensures
     in
-    record { answer = answer; letters = c.loop-rest.invariant.1; right = right c.args.letters c.args.text.now (Ok plan) answer }
+    record { answer = answer; letters = c.loop-lines.invariant.1; right = right c.args.letters c.args.text.now (Ok plan) answer }

@@ -1,41 +1,44 @@
 -- A plan with one pattern more has its tables right.
-use Rattle.std.proofs.Common.{refl, arith, rules}
-use Rattle.plan.proofs.Building.{Written, view, inside_new, counted_new, nonempty_new, filled_new, within_new, least_new, most_new, placed_new, admits_new, opened_new, ended_new}
+use Rattle.std.proofs.Common.{refl, sym, ◌∙◌, arith, rules, true-eqb, false-eqb}
+use Rattle.plan.specs.Rows.{items}
+use Rattle.plan.proofs.Building.{Grown, view, more_spans, more_steps, inside_new, counted_new, nonempty_new, filled_new, within_new, least_first, least_more, most_new, placed_new, admits_new, opened_new, ended_new}
 use Rattle.plan.proofs.Plan.with.Goals as goal
-use Rattle.plan.proofs.Plan.with.Goals.{After-columns}
+use Rattle.plan.proofs.Plan.with.Goals.{After-columns, then-is_empty, else-is_empty}
 
-made : (c : After-columns) → Written c.args.self.now c.args.pattern.now c.written.result
-made c =
+grown : (c : After-columns) → Grown c.args.self.now c.args.pattern.now c.len-from.result (items c.extend.new.self) (items c.push.new.self)
+grown c =
     record {
       room = c.requires;
-      firsts = search rules;
-      lengths = search rules;
-      was = search rules;
-      is = search rules;
-      before = c.written.ensures.before;
-      there = c.written.ensures.there;
+      behind = c.len-from.ensures.value;
+      span = _;
+      first = refl;
+      long = refl;
+      steps_are = c.extend.ensures;
+      spans_are = c.push.ensures;
     }
 
 pub invariant_of-result : goal.invariant_of-result
 invariant_of-result c =
-    let m = made (goal.at.invariant_of-result c).After-columns in
+    let g = grown (goal.at.invariant_of-result c).After-columns in
     record {
-      lettered = omega arith;
-      alphabet = omega arith;
-      few = omega (arith, c.requires.patterns);
-      small = omega (arith, c.requires.steps);
-      inside = inside_new _ _ _ m;
-      counted = counted_new _ _ _ m;
-      nonempty = nonempty_new _ _ _ m;
-      filled = filled_new _ _ _ m;
-      within = within_new _ _ _ m;
-      least = least_new _ _ _ m c.shorter.result c.shorter.ensures;
-      most = most_new _ _ _ m c.longer.result c.longer.ensures;
-      placed = placed_new _ _ _ m;
-      admits = admits_new _ _ _ m c.columns.result c.columns.ensures;
-      opened = opened_new _ _ _ m;
-      ended = ended_new _ _ _ m;
+      inside = inside_new _ _ _ _ _ g;
+      counted = counted_new _ _ _ _ _ g;
+      nonempty = nonempty_new _ _ _ _ _ g;
+      filled = filled_new _ _ _ _ _ g;
+      within = within_new _ _ _ _ _ g;
+      least =
+          elim c.if-is_empty.branch [
+            | then-is_empty w ↦ w.result-is ∙ least_first _ _ _ _ _ g (omega (arith, true-eqb _ 0 w.if-is_empty.ensures))
+            | else-is_empty w ↦ w.result-is ∙ w.min.ensures ∙ least_more _ _ _ _ _ g (omega (arith, false-eqb _ 0 w.if-is_empty.ensures))
+          ];
+      most = c.max.ensures ∙ most_new _ _ _ _ _ g;
+      placed = placed_new _ _ _ _ _ g;
+      admits = admits_new _ _ _ _ _ g c.columns.result c.columns.ensures;
+      opened = opened_new _ _ _ _ _ g;
+      ended = ended_new _ _ _ _ _ g;
     }
 
 pub returns : goal.returns
-returns c = let m = made (goal.at.returns c).After-columns in record { letters = refl; patterns = refl; count = refl; more = view _ _ _ m }
+returns c =
+    let g = grown (goal.at.returns c).After-columns in
+    record { letters = refl; patterns = more_spans _ _ _ _ _ g; count = more_steps _ _ _ _ _ g; more = view _ _ _ _ _ g }
