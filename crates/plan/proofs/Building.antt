@@ -11,7 +11,7 @@ use Rattle.std.proofs.lemmas.Bool.{cases_lt}
 use Rattle.pattern.specs.Patterns.{shortest, longest, Filled}
 use Rattle.pattern.specs.Fits.{tails, rests, steps_where, admits_first, is_last, opening, opens, first_step, pattern_at, plan_of, Inside, Nonempty, Firsts, Admit}
 use Rattle.plan.specs.Sets.{Within}
-use Rattle.plan.specs.Rows.{items, firsts_of, lengths_of, plan_in}
+use Rattle.plan.specs.Spans.{items, firsts_of, lengths_of, plan_in}
 use Rattle.plan.specs.Views.{letters_of, patterns_of, Room}
 use Rattle.plan.specs.declared.Plan.{Plan}
 use Rattle.plan.specs.declared.span.Span.{Span}
@@ -221,7 +221,7 @@ plan_none spans steps none = rw none refl
 pub length_plan : (plan : Plan) → length (patterns_of plan) ≡ length (items plan.spans)
 length_plan plan = length-map-range_with_len (pattern_at (firsts_of (items plan.spans)) (lengths_of (items plan.spans)) (items plan.steps)) 0 (length (items plan.spans))
 
--- the rows of the plan with the pattern p more
+-- the steps and spans of the plan with the pattern p more
 pub record Grown (plan : Plan) (p : List ℕ) (from : ℕ) (steps : List ℕ) (spans : List Span) : Type 0 where
   pub room : Room plan p
   pub behind : from ≡ length (items plan.steps)
@@ -248,49 +248,49 @@ module _ (plan : Plan) (p : List ℕ) (from : ℕ) (steps : List ℕ) (spans : L
   more_steps = ap length g.steps_are ∙ length-append (items plan.steps) p
 
   pub view : plan' ≡ patterns_of plan ++ (p ∷ [])
-  view = rw (more_spans, firsts_are, lengths_are, g.steps_are) (plan_more (items plan.spans) (items plan.steps) p plan.inside)
+  view = rw (more_spans, firsts_are, lengths_are, g.steps_are) (plan_more (items plan.spans) (items plan.steps) p plan.tables.inside)
 
   room : length (rests (patterns_of plan)) + length p ≤ 64
-  room = omega (arith, g.room.steps, plan.counted)
+  room = omega (arith, g.room.steps, plan.tables.counted)
 
   pub inside_new : Inside (length spans) (firsts_of spans) (lengths_of spans) (length steps)
-  inside_new = rw (more_spans, firsts_are, lengths_are, more_steps) (inside_more (items plan.spans) (items plan.steps) p plan.inside)
+  inside_new = rw (more_spans, firsts_are, lengths_are, more_steps) (inside_more (items plan.spans) (items plan.steps) p plan.tables.inside)
 
   pub counted_new : length (rests plan') ≡ length steps
-  counted_new = ap (λ (x : List (List ℕ)). length (rests x)) view ∙ counted_more (patterns_of plan) p g.room.some room ∙ ap (λ (k : ℕ). k + length p) plan.counted ∙ sym more_steps
+  counted_new = ap (λ (x : List (List ℕ)). length (rests x)) view ∙ counted_more (patterns_of plan) p g.room.some room ∙ ap (λ (k : ℕ). k + length p) plan.tables.counted ∙ sym more_steps
 
   pub nonempty_new : Nonempty plan'
-  nonempty_new = subst Nonempty (sym view) (nonempty_more (patterns_of plan) p g.room.some room plan.nonempty)
+  nonempty_new = subst Nonempty (sym view) (nonempty_more (patterns_of plan) p g.room.some room plan.tables.nonempty)
 
   pub filled_new : Filled plan'
-  filled_new = subst Filled (sym view) (each_more (λ s. 0 < s) (patterns_of plan) p plan.filled (λ i less. (g.room.sets i less).0))
+  filled_new = subst Filled (sym view) (each_more (λ s. 0 < s) (patterns_of plan) p plan.tables.filled (λ i less. (g.room.sets i less).0))
 
   pub within_new : Within (letters_of plan) plan'
-  within_new = subst (Within (letters_of plan)) (sym view) (each_more (λ s. s < 2 ^ letters_of plan) (patterns_of plan) p plan.within (λ i less. (g.room.sets i less).1))
+  within_new = subst (Within (letters_of plan)) (sym view) (each_more (λ s. s < 2 ^ letters_of plan) (patterns_of plan) p plan.tables.within (λ i less. (g.room.sets i less).1))
 
   pub least_first : length (items plan.spans) ≡ 0 → length p ≡ shortest plan'
   unfolding shortest
   least_first none = rw (view, none) refl
 
   pub least_more : 0 < length (items plan.spans) → min (length p) plan.shortest ≡ shortest plan'
-  least_more some = omega (arith, plan.least, shortest_more (patterns_of plan) p (omega (arith, length_plan plan)), ap shortest view)
+  least_more some = omega (arith, plan.tables.least, shortest_more (patterns_of plan) p (omega (arith, length_plan plan)), ap shortest view)
 
   pub most_new : max (length p) plan.longest ≡ longest plan'
-  most_new = omega (arith, plan.most, longest_more (patterns_of plan) p, ap longest view)
+  most_new = omega (arith, plan.tables.most, longest_more (patterns_of plan) p, ap longest view)
 
   pub placed_new : Firsts plan' (firsts_of spans)
   placed_new =
       let long : length (patterns_of plan) ≡ length (firsts_of (items plan.spans)) = length_plan plan ∙ sym (length_firsts (items plan.spans)) in
-      rw (view, firsts_are, ← plan.counted) (placed_more (patterns_of plan) p g.room.some room (firsts_of (items plan.spans)) long plan.placed)
+      rw (view, firsts_are, ← plan.tables.counted) (placed_more (patterns_of plan) p g.room.some room (firsts_of (items plan.spans)) long plan.tables.placed)
 
   pub admits_new : (admit : List ℕ) → ((a : ℕ) → a < 32 → get_or admit a 0 ≡ bit_or (get_or plan.admit a 0) ((steps_where (admits_first a) (p ∷ []) * 2 ^ from) % 2 ^ 64)) → Admit plan' (letters_of plan) admit
   admits_new admit is a less =
       is a (omega (arith, plan.alphabet.few))
-      ∙ rw (g.behind, plan.admits a less, ← plan.counted) (where_more (patterns_of plan) p g.room.some room (admits_first a))
+      ∙ rw (g.behind, plan.tables.admits a less, ← plan.tables.counted) (where_more (patterns_of plan) p g.room.some room (admits_first a))
       ∙ ap (steps_where (admits_first a)) (sym view)
 
   pub opened_new : bit_or plan.starts ((1 * 2 ^ from) % 2 ^ 64) ≡ mask_l (opens plan')
-  opened_new = rw (g.behind, plan.opened, ← plan.counted) (opened_more (patterns_of plan) p g.room.some room) ∙ ap (λ (x : List (List ℕ)). mask_l (opens x)) (sym view)
+  opened_new = rw (g.behind, plan.tables.opened, ← plan.tables.counted) (opened_more (patterns_of plan) p g.room.some room) ∙ ap (λ (x : List (List ℕ)). mask_l (opens x)) (sym view)
 
   pub ended_new : bit_or plan.ends ((1 * 2 ^ (from + length p - 1)) % 2 ^ 64) ≡ steps_where is_last plan'
-  ended_new = rw (g.behind, plan.ended, ← plan.counted) (ended_more (patterns_of plan) p g.room.some room) ∙ ap (steps_where is_last) (sym view)
+  ended_new = rw (g.behind, plan.tables.ended, ← plan.tables.counted) (ended_more (patterns_of plan) p g.room.some room) ∙ ap (steps_where is_last) (sym view)

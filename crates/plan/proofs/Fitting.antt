@@ -15,7 +15,7 @@ lawful plan K = (laws (patterns_of plan)).fits (sound plan).well K
 module _ (plan : Plan) (a admitting : ℕ) (is : admitting ≡ admit_of (patterns_of plan) a) where
   pub first_word : (bit_and admitting plan.ends, bit_and admitting ((2 ^ 64 - 1) - plan.ends)) ≡ fits_of (patterns_of plan) (a ∷ [])
   first_word =
-      let here : (bit_and admitting plan.ends, bit_and admitting ((2 ^ 64 - 1) - plan.ends)) ≡ (fitting (patterns_of plan)).first a = rw (is, plan.ended) in
+      let here : (bit_and admitting plan.ends, bit_and admitting ((2 ^ 64 - 1) - plan.ends)) ≡ (fitting (patterns_of plan)).first a = rw (is, plan.tables.ended) in
       here ∙ sym ((lawful plan (suc a)).one a (omega arith))
 
   abbrev shift : ℕ → ℕ
@@ -23,7 +23,7 @@ module _ (plan : Plan) (a admitting : ℕ) (is : admitting ≡ admit_of (pattern
 
   pub extend_word : (f : ℕ × ℕ) (t : List ℕ) → 0 < length t → f ≡ fits_of (patterns_of plan) t → (shift f.0, shift f.1) ≡ fits_of (patterns_of plan) (a ∷ t)
   extend_word f t some same =
-      let here : (shift f.0, shift f.1) ≡ (fitting (patterns_of plan)).extend f a = rw (is, plan.opened) in
+      let here : (shift f.0, shift f.1) ≡ (fitting (patterns_of plan)).extend f a = rw (is, plan.tables.opened) in
       here ∙ ap (λ (g : ℕ × ℕ). (fitting (patterns_of plan)).extend g a) same ∙ sym ((lawful plan (suc a)).more a t (omega arith) some)
 
 pub marks_word : (plan : Plan) (f : ℕ × ℕ) (r : ℕ) → r ≡ (fitting (patterns_of plan)).marks f → (t : List ℕ) → 0 < length t → f ≡ fits_of (patterns_of plan) t → r ≡ marks_of (patterns_of plan) t
@@ -31,5 +31,5 @@ marks_word plan f r e t some same = e ∙ ap (fitting (patterns_of plan)).marks 
 
 pub prefix_word : (plan : Plan) (f : ℕ × ℕ) (t : List ℕ) → 0 < length t → f ≡ fits_of (patterns_of plan) t → (not (eqb (bit_and f.1 plan.starts) 0) ≡ true) ↔ FrontOf (marks_of (patterns_of plan)) t
 prefix_word plan f t some same =
-    let here : not (eqb (bit_and f.1 plan.starts) 0) ≡ (fitting (patterns_of plan)).prefix f = rw plan.opened in
+    let here : not (eqb (bit_and f.1 plan.starts) 0) ≡ (fitting (patterns_of plan)).prefix f = rw plan.tables.opened in
     subst (λ (b : Bool). (b ≡ true) ↔ FrontOf (marks_of (patterns_of plan)) t) (sym (here ∙ ap (fitting (patterns_of plan)).prefix same)) ((lawful plan 0).prefixed t some)

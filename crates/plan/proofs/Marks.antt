@@ -9,7 +9,7 @@ use Rattle.std.proofs.lemmas.List.{length-map, length-take, get_or-map, same_lis
 use Rattle.std.proofs.lemmas.Simd.{map-map}
 use Rattle.pattern.specs.Fits.{bit, first_step, fitting}
 use Rattle.pattern.proofs.Bitwise.{bit_number}
-use Rattle.plan.specs.Rows.{items, firsts_of}
+use Rattle.plan.specs.Spans.{items, firsts_of}
 use Rattle.plan.specs.Views.{patterns_of}
 use Rattle.plan.specs.declared.Plan.{Plan}
 use Rattle.plan.specs.declared.span.Span.{Span}
@@ -32,7 +32,7 @@ module _ (plan : Plan) (f : ℕ × ℕ) where
           let l : k < length (patterns_of plan) = omega (arith, long) in
           let m : k < length (firsts_of (items plan.spans)) = omega (arith, length-map (items plan.spans) (λ (s : Span). s.first), length_plan plan) in
           rw same (get_or-map (bit f.0) (firsts_of (items plan.spans)) k 0 d m)
-          ∙ ap (bit f.0) (plan.placed k l)
+          ∙ ap (bit f.0) (plan.tables.placed k l)
           ∙ sym (get_or-map-range_with_len (λ j. bit f.0 (first_step (patterns_of plan) j)) 0 (length (patterns_of plan)) k k d l (zero-add k))
 
   pub marks_are : fold (λ m (s : Span). bit_or ((m * 2) % 2 ^ 32) (bit_and (f.0 / 2 ^ s.first) 1)) 0 (reverse (items plan.spans)) ≡ (fitting (patterns_of plan)).marks f

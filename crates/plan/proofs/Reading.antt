@@ -10,7 +10,7 @@ use Rattle.notation.proofs.Lines.{line_size, line_sets}
 use Rattle.notation.proofs.Turns.{read_letters, read_lines, lines_start}
 use Rattle.pattern.specs.Fits.{rests}
 use Rattle.plan.specs.Sets.{Steps}
-use Rattle.plan.specs.Rows.{items}
+use Rattle.plan.specs.Spans.{items}
 use Rattle.plan.specs.Views.{letters_of, patterns_of, planned, Right, empty_plan, Room}
 use Rattle.plan.specs.declared.Plan.{Plan}
 use Rattle.plan.proofs.Building.{length_plan}
@@ -48,7 +48,7 @@ pub begun : (K : ℕ) (text : List ℕ) (plan : Plan) → Ok (patterns_of plan) 
 unfolding rests
 begun K text plan e =
     let none : patterns_of plan ≡ [] = (emptied K (patterns_of plan) e).1 in
-    lines_start K text (sym (length_plan plan) ∙ ap length none) (sym plan.counted ∙ ap (λ (x : List (List ℕ)). length (rests x)) none) none
+    lines_start K text (sym (length_plan plan) ∙ ap length none) (sym plan.tables.counted ∙ ap (λ (x : List (List ℕ)). length (rests x)) none) none
 
 pub lines : (K : ℕ) (text : List ℕ) (plan : Plan) → Ok (patterns_of plan) ≡ empty_plan K → true ≡ whole text → lines_of K 32 64 [] text ≡ read_plan K text
 lines K text plan e h = sym (read_lines K text (emptied K (patterns_of plan) e).0 (sym h))

@@ -6,13 +6,13 @@ use Rattle.pattern.specs.Patterns.{admits}
 use Rattle.pattern.specs.Fits.{bit, tails, rests, steps_where, admits_first, admit_of}
 use Rattle.pattern.proofs.Bitwise.{bit_above, mask_l_append}
 use Rattle.plan.specs.Sets.{Within}
-use Rattle.plan.specs.Rows.{items}
+use Rattle.plan.specs.Spans.{items}
 use Rattle.plan.specs.Views.{letters_of, patterns_of, Sound}
 use Rattle.plan.specs.declared.Plan.{Plan}
 use Rattle.plan.proofs.Building.{length_plan}
 
 pub at_most : (plan : Plan) → length (rests (patterns_of plan)) ≤ 64
-at_most plan = omega (arith, plan.counted, length-take plan.steps.count plan.steps.places, plan.steps.within)
+at_most plan = omega (arith, plan.tables.counted, length-take plan.steps.count plan.steps.places, plan.steps.within)
 
 pub sound : (plan : Plan) → Sound (letters_of plan) (patterns_of plan)
 sound plan =
@@ -20,8 +20,8 @@ sound plan =
       some_letter = plan.alphabet.some;
       letters = plan.alphabet.few;
       patterns = omega (arith, length_plan plan, length-take plan.spans.count plan.spans.places, plan.spans.within);
-      well = record { nonempty = plan.nonempty; filled = plan.filled; few = at_most plan };
-      within = plan.within;
+      well = record { nonempty = plan.tables.nonempty; filled = plan.tables.filled; few = at_most plan };
+      within = plan.tables.within;
     }
 
 -- ---- a letter that is not one of the plan's is admitted nowhere
@@ -37,7 +37,7 @@ none_in K a (s ∷ ss) l small =
     let rest : mask_l (map (admits_first a) (tails ss)) ≡ 0 = none_in K a ss l (λ i less. small (suc i) (omega arith)) in
     rw (not_in K s a (small zero (omega arith)) l, rest)
 
-pub admit_none : (K a : ℕ) (plan : List (List ℕ)) → K ≤ a → Within K plan → admit_of plan a ≡ 0
+admit_none : (K a : ℕ) (plan : List (List ℕ)) → K ≤ a → Within K plan → admit_of plan a ≡ 0
 unfolding steps_where rests
 admit_none K a [] l within = refl
 admit_none K a (p ∷ ps) l within =
@@ -45,3 +45,6 @@ admit_none K a (p ∷ ps) l within =
     ap mask_l (map-append (admits_first a) (tails p) (rests ps))
     ∙ mask_l_append (map (admits_first a) (tails p)) (map (admits_first a) (rests ps))
     ∙ rw (none_in K a p l (within zero), rest) (omega arith)
+
+pub none_admits : (plan : Plan) (a : ℕ) → letters_of plan ≤ a → admit_of (patterns_of plan) a ≡ 0
+none_admits plan a h = admit_none (letters_of plan) a (patterns_of plan) h plan.tables.within

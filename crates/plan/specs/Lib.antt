@@ -1,4 +1,5 @@
--- The modules of the definitions: what the sets of a plan are, what its rows are, and what the code's values mean.
+-- The modules of the definitions: the sets and the patterns of a plan, what its tables hold, and what the values of the code mean.
 pub mod Sets
-pub mod Rows
+pub mod Spans
+pub mod Tables
 pub mod Views

@@ -8,8 +8,8 @@ use Rattle.notation.specs.Grammar.{Writes, Limits}
 use Rattle.notation.specs.Refusals.{Reason}
 use Rattle.pattern.specs.Laws.{Wellformed}
 use Rattle.plan.specs.Sets.{Steps, Within}
-use Rattle.plan.specs.Rows.{items, plan_in}
-use Rattle.plan.specs.declared.row.Row.{Row}
+use Rattle.plan.specs.Spans.{items, plan_in}
+use Rattle.plan.specs.declared.copy_vec.CopyVec.{CopyVec}
 use Rattle.plan.specs.declared.steps.Scanner.{Scanner}
 use Rattle.plan.specs.declared.Plan.{Plan}
 
@@ -38,7 +38,7 @@ found_set left (Ok set) = found set left.rest.now
 found_set left (Err f) = faulty f
 
 -- the steps of a line and the text that is left behind it, or a fault
-abbrev pub found_line : Scanner → Result (Row ℕ 64) LineFault → Found (List ℕ)
+abbrev pub found_line : Scanner → Result (CopyVec ℕ 64) LineFault → Found (List ℕ)
 found_line left (Ok steps) = found (items steps) left.rest.now
 found_line left (Err f) = faulty f
 

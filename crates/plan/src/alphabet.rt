@@ -8,7 +8,7 @@ use notation::{PlanRefusal, Sign};
 const MOST_LETTERS: u8 = 32;
 
 /// The letters are the numbers below this one.
-#[derive(Clone, Copy, PartialEq, Eq, Debug)]
+#[derive(Clone, Copy, Debug)]
 pub(crate) struct Alphabet {
     letters: u8,
     ghost some: { 1 ≤ letters },

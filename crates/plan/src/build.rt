@@ -5,7 +5,7 @@ ghost use Rattle.plan.specs.Views.{patterns_of, Room, More};
 
 use crate::Plan;
 use crate::alphabet::Alphabet;
-use crate::row::Row;
+use crate::copy_vec::CopyVec;
 use crate::span::Span;
 
 /// The steps of the pattern that admit the letter.
@@ -40,8 +40,8 @@ impl Plan {
     {
         Plan {
             alphabet,
-            steps: Row::new(0),
-            spans: Row::new(Span {
+            steps: CopyVec::new(0),
+            spans: CopyVec::new(Span {
                 first: 0,
                 length: 0,
             }),

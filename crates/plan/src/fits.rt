@@ -10,6 +10,7 @@ use crate::Plan;
 
 impl Plan {
     /// How many letters the alphabet has.
+    #[tactic(auto, using(crate::proofs::Soundness::sound))]
     pub fn letters(&self) -> u8
         ensures answer { result ≡ letters_of self.now }
         ensures sound { Sound result (patterns_of self.now) }
@@ -18,6 +19,7 @@ impl Plan {
     }
 
     /// How many patterns there are.
+    #[tactic(auto, using(crate::proofs::Building::length_plan))]
     pub fn patterns(&self) -> u8
         ensures answer { result ≡ length (patterns_of self.now) }
     {
@@ -39,6 +41,7 @@ impl Plan {
     }
 
     /// The steps that admit the letter: none does if it is not one of the plan's.
+    #[tactic(auto, using(crate::proofs::Soundness::none_admits))]
     fn admitting(&self, letter: u8) -> u64
         ensures answer { result ≡ admit_of (patterns_of self.now) letter }
         ensures none { letters_of self.now ≤ letter → result ≡ 0 }
@@ -51,6 +54,7 @@ impl Plan {
     }
 
     /// The fits of the word that is one letter, closing and inner.
+    #[tactic(auto, using(crate::proofs::Fitting::first_word))]
     pub fn first(&self, letter: u8) -> (u64, u64)
         ensures answer { result ≡ (fitting (patterns_of self.now)).first letter }
         ensures word { result ≡ fits_of (patterns_of self.now) (letter ∷ []) }
@@ -61,6 +65,7 @@ impl Plan {
     }
 
     /// The fits of a text with one letter more before it, from those of the text.
+    #[tactic(auto, using(crate::proofs::Fitting::extend_word))]
     pub fn extend(&self, fits: (u64, u64), letter: u8) -> (u64, u64)
         ensures answer { result ≡ (fitting (patterns_of self.now)).extend fits letter }
         ensures word { (t : List ℕ) → 0 < length t → fits ≡ fits_of (patterns_of self.now) t → result ≡ fits_of (patterns_of self.now) (letter ∷ t) }
@@ -87,6 +92,7 @@ impl Plan {
     }
 
     /// Whether a text with these fits is a proper prefix of an image.
+    #[tactic(auto, using(crate::proofs::Fitting::prefix_word))]
     pub fn is_prefix(&self, fits: (u64, u64)) -> bool
         ensures answer { result ≡ (fitting (patterns_of self.now)).prefix fits }
         ensures word { (t : List ℕ) → 0 < length t → fits ≡ fits_of (patterns_of self.now) t → ((result ≡ true) ↔ FrontOf (marks_of (patterns_of self.now)) t) }

@@ -15,15 +15,11 @@
 //! ```
 #![tactic(auto)]
 
-ghost use Rattle.std.specs.Prelude.{◌≡◌, length};
-ghost use Rattle.std.specs.Simd.Lanes.{mask_l};
-ghost use Rattle.pattern.specs.Patterns.{Filled, shortest as shortest_of, longest as longest_of};
-ghost use Rattle.pattern.specs.Fits.{rests, opens, steps_where, is_last, Inside, Nonempty, Admit, Firsts};
-ghost use Rattle.plan.specs.Rows.{items, firsts_of, lengths_of, plan_in};
-ghost use Rattle.plan.specs.Sets.{Within};
+ghost use Rattle.plan.specs.Spans.{items};
+ghost use Rattle.plan.specs.Tables.{Tables};
 
 use alphabet::Alphabet;
-use row::Row;
+use copy_vec::CopyVec;
 use span::Span;
 
 mod alphabet;
@@ -31,7 +27,7 @@ mod build;
 mod fits;
 mod lines;
 mod read;
-mod row;
+mod copy_vec;
 mod span;
 mod steps;
 
@@ -41,9 +37,9 @@ mod steps;
 pub struct Plan {
     alphabet: Alphabet,
     /// The letters that each step admits: bit a stands for the letter a.
-    steps: Row<u32, 64>,
+    steps: CopyVec<u32, 64>,
     /// The steps of each pattern.
-    spans: Row<Span, 32>,
+    spans: CopyVec<Span, 32>,
     /// The length of the shortest pattern, 0 where there is none.
     shortest: u8,
     /// The length of the longest pattern, 0 where there is none.
@@ -54,15 +50,5 @@ pub struct Plan {
     starts: u64,
     /// The set of the last steps of the patterns.
     ends: u64,
-    ghost inside: { Inside (length (items spans)) (firsts_of (items spans)) (lengths_of (items spans)) (length (items steps)) },
-    ghost counted: { length (rests (plan_in (items spans) (items steps))) ≡ length (items steps) },
-    ghost nonempty: { Nonempty (plan_in (items spans) (items steps)) },
-    ghost filled: { Filled (plan_in (items spans) (items steps)) },
-    ghost within: { Within alphabet.letters (plan_in (items spans) (items steps)) },
-    ghost least: { shortest ≡ shortest_of (plan_in (items spans) (items steps)) },
-    ghost most: { longest ≡ longest_of (plan_in (items spans) (items steps)) },
-    ghost placed: { Firsts (plan_in (items spans) (items steps)) (firsts_of (items spans)) },
-    ghost admits: { Admit (plan_in (items spans) (items steps)) alphabet.letters admit },
-    ghost opened: { starts ≡ mask_l (opens (plan_in (items spans) (items steps))) },
-    ghost ended: { ends ≡ steps_where is_last (plan_in (items spans) (items steps)) },
+    ghost tables: { Tables alphabet.letters (items spans) (items steps) shortest longest admit starts ends },
 }

@@ -18,6 +18,7 @@ const MOST_LINES: usize = 32;
 const MOST_STEPS: usize = 64;
 
 /// Whether the text is not too long, and its last byte ends a line.
+#[tactic(auto, using(notation::proofs::Turns::whole_none))]
 fn whole(text: &[u8]) -> bool
     ensures { result ≡ whole_text text.now }
 {

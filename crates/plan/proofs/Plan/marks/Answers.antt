@@ -4,7 +4,7 @@ use mathlib.Core.List.{reverse}
 use lib.Bits.{bit_and, bit_or}
 use Rattle.std.specs.List.{fold}
 use Rattle.pattern.specs.Fits.{fitting}
-use Rattle.plan.specs.Rows.{items}
+use Rattle.plan.specs.Spans.{items}
 use Rattle.plan.specs.Views.{patterns_of}
 use Rattle.plan.specs.declared.span.Span.{Span}
 use Rattle.plan.proofs.Fitting.{marks_word}

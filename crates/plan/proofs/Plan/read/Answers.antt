@@ -6,7 +6,7 @@ use Rattle.notation.specs.declared.PlanRefusal.TheVariants.{Text, Line}
 use Rattle.notation.specs.declared.LineFault.{LineFault}
 use Rattle.notation.specs.Reading.{found, between, line_of, lines_of, read_plan}
 use Rattle.notation.proofs.Turns.{lines_end, lines_full, lines_wrong, lines_again, read_text, read_lines}
-use Rattle.plan.specs.Rows.{items}
+use Rattle.plan.specs.Spans.{items}
 use Rattle.plan.specs.Views.{letters_of, patterns_of, found_line}
 use Rattle.plan.specs.declared.Plan.{Plan}
 use Rattle.plan.specs.declared.alphabet.Alphabet.{Alphabet}
@@ -25,16 +25,14 @@ good c e =
     let is : c.line.result ≡ Ok c.in_ok-pattern.pattern = ok_before c.line.result c.map_err.result _ _ c.map_err.ensures.cases c.map_err.ensures.variant c.in_ok-pattern.was in
     subst (λ r. found_line c.line.new.self r ≡ line_of c.args.letters (64 - length (items c.loop-lines.plan.steps)) c.loop-lines.lines.rest.now) is e
 
-pub returns-in_err-plan : goal.returns-in_err-plan
-returns-in_err-plan c =
+pub returns-in_err-plan-clause-answer : goal.returns-in_err-plan-clause-answer
+returns-in_err-plan-clause-answer c =
     let p = err_from_is_err_and c.from_residual.result c.from_residual.ensures.1 in
-    let answer = refused c.args.letters c.args.text.now _ c.in_err-plan.ensures.answer in
-    rw (p.1, p.2) (record { answer = answer; letters = tt; right = right c.args.letters c.args.text.now (Err _) answer })
+    rw (p.1, p.2) (refused c.args.letters c.args.text.now _ c.in_err-plan.ensures.answer)
 
-pub returns-then-not-whole : goal.returns-then-not-whole
-returns-then-not-whole c =
-    let answer = sym (read_text c.args.letters c.args.text.now (emptied c.args.letters (patterns_of c.in_ok-plan.plan) c.in_ok-plan.ensures.answer).0 (sym c.if-not-whole.ensures)) in
-    record { answer = answer; letters = tt; right = right c.args.letters c.args.text.now (Err Text) answer }
+pub returns-then-not-whole-clause-answer : goal.returns-then-not-whole-clause-answer
+returns-then-not-whole-clause-answer c =
+    sym (read_text c.args.letters c.args.text.now (emptied c.args.letters (patterns_of c.in_ok-plan.plan) c.in_ok-plan.ensures.answer).0 (sym c.if-not-whole.ensures))
 
 pub loop-lines-init : goal.loop-lines-init
 loop-lines-init c =

@@ -1,7 +1,7 @@
 -- What is left of the text is read as the text is, after the lines that were read.
 use Rattle.std.proofs.Common.{◌≡◌, ◌-◌, [], length}
 use Rattle.notation.specs.Reading.{lines_of}
-use Rattle.plan.specs.Rows.{items}
+use Rattle.plan.specs.Spans.{items}
 use Rattle.plan.specs.Views.{letters_of, patterns_of}
 use Rattle.plan.proofs.Plan.read.Given as goal
 

@@ -5,7 +5,7 @@ use Rattle.std.proofs.lemmas.List.{length_push}
 use Rattle.std.proofs.lemmas.Result.{err_from_is_err_and}
 use Rattle.notation.specs.Reading.{step_of, steps_of, filled, next_of, ended, as_next}
 use Rattle.notation.proofs.Turns.{tail, next_end, next_on, as_wrong, as_step, steps_end, steps_wrong, steps_full, steps_more, filled_none, filled_some, filled_faulty, line_left}
-use Rattle.plan.specs.Rows.{items}
+use Rattle.plan.specs.Spans.{items}
 use Rattle.plan.specs.declared.alphabet.Alphabet.{Alphabet}
 use Rattle.plan.proofs.steps.Scanner.line.Goals as goal
 use Rattle.plan.proofs.steps.Scanner.line.Goals.{In-10, After-step, then-self-lt1, else-self-lt1+in_default-1}

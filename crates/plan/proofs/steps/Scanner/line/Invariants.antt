@@ -1,7 +1,7 @@
 -- What is left of the line is read as the line is, after the steps that were read.
 use Rattle.std.proofs.Common.{◌≡◌, ◌-◌, ◌≤◌, [], length}
 use Rattle.notation.specs.Reading.{steps_of}
-use Rattle.plan.specs.Rows.{items}
+use Rattle.plan.specs.Spans.{items}
 use Rattle.plan.proofs.steps.Scanner.line.Given as goal
 
 abbrev pub invariant-loop-self : goal.invariant-loop-self

@@ -1,12 +1,12 @@
--- What the rows of a plan are: its steps, and the patterns that lie in them.
+-- Which patterns lie in the steps of a plan.
 use Rattle.std.specs.Prelude.{ℕ, List, map, length, take}
 use Rattle.pattern.specs.Fits.{plan_of}
-use Rattle.plan.specs.declared.row.Row.{Row}
+use Rattle.plan.specs.declared.copy_vec.CopyVec.{CopyVec}
 use Rattle.plan.specs.declared.span.Span.{Span}
 
--- the items of a row
-abbrev pub items : {T : Type 0} {N : ℕ} → Row T N → List T
-items row = take row.count row.places
+-- the items of a vector
+abbrev pub items : {T : Type 0} {N : ℕ} → CopyVec T N → List T
+items v = take v.count v.places
 
 -- the first step of each pattern, and how many steps it has
 abbrev pub firsts_of : List Span → List ℕ

@@ -1,36 +1,36 @@
-//! A list in the value that holds it.
+//! A vector that is copied with the value that holds it.
 ghost use Rattle.std.specs.Prelude.{◌≡◌, ◌+◌, ◌<◌, ◌≤◌, ◌==◌, [], ◌∷◌, ◌++◌, length, take, ⊤};
 
 use std::alloc::AllocError;
 
-/// At most `N` items, one after the other. It takes no memory from elsewhere, and is `Copy` where its items are, as the
-/// library's `ArrayVec` is not: so a plan can be copied.
+/// At most `N` items, one after the other, in the value itself. It is `Copy` where they are, as the library's `ArrayVec` is not,
+/// and so a plan is. No `==` is derived, which would compare the places behind the items too.
 #[derive(Debug)]
-pub(crate) struct Row<T, const N: usize> {
+pub(crate) struct CopyVec<T, const N: usize> {
     places: [T; N],
     count: usize,
     ghost within: { count ≤ N },
 }
 
-// No derive makes a value with a ghost field where there is a type parameter.
-impl<T: Copy, const N: usize> Clone for Row<T, N> {
+// Written out, since no `Clone` is derived where there are a ghost field and a type parameter.
+impl<T: Copy, const N: usize> Clone for CopyVec<T, N> {
     ghost is_clone = { λ x y. y ≡ x };
 
     ghost is_infallible = { λ _. ⊤ };
 
-    fn clone(&self) -> Result<Row<T, N>, AllocError> {
+    fn clone(&self) -> Result<CopyVec<T, N>, AllocError> {
         Ok(*self)
     }
 }
 
-impl<T: Copy, const N: usize> Copy for Row<T, N> {}
+impl<T: Copy, const N: usize> Copy for CopyVec<T, N> {}
 
-impl<T: Copy, const N: usize> Row<T, N> {
-    /// The row without items. The places that are not used have the blank.
-    pub(crate) fn new(blank: T) -> Row<T, N>
+impl<T: Copy, const N: usize> CopyVec<T, N> {
+    /// The vector without items. The places behind the items have the blank.
+    pub(crate) fn new(blank: T) -> CopyVec<T, N>
         ensures { take result.count result.places ≡ [] }
     {
-        Row {
+        CopyVec {
             places: [blank; N],
             count: 0,
         }
@@ -67,7 +67,7 @@ impl<T: Copy, const N: usize> Row<T, N> {
         self.count += 1;
     }
 
-    /// So many items more, behind the others.
+    /// These items more, behind the others.
     pub(crate) fn extend(&mut self, items: &[T])
         requires { length (take self.old.count self.old.places) + length items.now ≤ N }
         ensures { take self.new.count self.new.places ≡ take self.old.count self.old.places ++ items.now }
