@@ -1,11 +1,9 @@
 -- A line is read if and only if its text is one of the grammar's, and there is room for its steps.
 use Rattle.std.proofs.Common.{◌≡◌, ℕ, zero, suc, ◌-◌, ◌^◌, ◌<◌, ◌≤◌, Bool, true, false, cond, eqb, List, [], ◌∷◌, ◌++◌, length, get_or, sym, refl, ap, ◌∙◌, subst, append_assoc, append-nil, arith}
 use Rattle.std.proofs.lemmas.Bool.{eqb-true}
-use Rattle.notation.specs.declared.LineFault.TheVariants.{TooManySteps, EmptyLine}
 use Rattle.notation.specs.Reading.{Found, found, faulty, step_of, Next, ended, step, wrong, as_next, next_of, at_last, goes_on_by, steps_of, filled, line_of}
 use Rattle.notation.specs.Grammar.{StepText, LineText, ends, goes}
 use Rattle.notation.proofs.Turns.{next_on, next_end, tail_is, as_step, steps_end, steps_more, filled_some}
-use Rattle.notation.proofs.Sets.{no_found}
 use Rattle.notation.proofs.Steps.{StepRead, step_read, step_reads, step_begins, step_set}
 
 -- ---- what was read
@@ -60,23 +58,23 @@ steps_read K zero had t p rest e = by_next (next_of K t) (next_read K t) e
   where
     by_next : (x : Next) → NextRead K t x → at_last had x ≡ found p rest → LineRead K zero had t p rest
     by_next (ended after) n e = line_ended K zero had t p rest after n e
-    by_next (step set after) n e = absurd (no_found TooManySteps p rest e)
-    by_next (wrong f) n e = absurd (no_found f p rest e)
+    by_next (step set after) n e = absurd (cc)
+    by_next (wrong f) n e = absurd (cc)
 steps_read K (suc room) had t p rest e = by_next (λ now after. steps_read K room now after p rest) (next_of K t) (next_read K t) e
   where
     by_next : ((now after : List ℕ) → steps_of K room now after ≡ found p rest → LineRead K room now after p rest) → (x : Next) → NextRead K t x → goes_on_by (steps_of K room) had x ≡ found p rest → LineRead K (suc room) had t p rest
     by_next again (ended after) n e = line_ended K (suc room) had t p rest after n e
     by_next again (step set after) n e = line_goes K room had t p rest set after n (again (had ++ set ∷ []) after e)
-    by_next again (wrong f) n e = absurd (no_found f p rest e)
+    by_next again (wrong f) n e = absurd (cc)
 
 pub line_read : (K room : ℕ) (t p rest : List ℕ) → line_of K room t ≡ found p rest → LineRead K room [] t p rest × (0 < length p)
 unfolding line_of filled
 line_read K room t p rest e = by_found_line (steps_of K room [] t) refl e
   where
     by_found_line : (y : Found (List ℕ)) → steps_of K room [] t ≡ y → filled y ≡ found p rest → LineRead K room [] t p rest × (0 < length p)
-    by_found_line (found [] after) q e = absurd (no_found EmptyLine p rest e)
+    by_found_line (found [] after) q e = absurd (cc)
     by_found_line (found (s ∷ ss) after) q e = let long : length (s ∷ ss) ≡ length p = ap length (let same : s ∷ ss ≡ p = cc in same) in (steps_read K room [] t p rest (q ∙ e), omega (arith, long))
-    by_found_line (faulty f) q e = absurd (no_found f p rest e)
+    by_found_line (faulty f) q e = absurd (cc)
 
 pub line_size : (K room : ℕ) (t p rest : List ℕ) → found p rest ≡ line_of K room t → (0 < length p) × (length p ≤ room)
 line_size K room t p rest e = let r = line_read K room t p rest (sym e) in (r.1, omega (arith, r.0.fits, ap length r.0.more))

@@ -1,19 +1,14 @@
 -- A text is read as a plan if and only if it writes that plan, within the limits.
-use Rattle.std.proofs.Common.{◌≡◌, ℕ, zero, suc, ◌+◌, ◌-◌, ◌<◌, ◌≤◌, Bool, true, false, cond, eqb, leb, List, [], ◌∷◌, ◌++◌, length, get_or, Ok, Err, Result, sym, refl, ap, ◌∙◌, subst, append_assoc, append-nil, arith}
+use Rattle.std.proofs.Common.{◌≡◌, ℕ, zero, suc, ◌+◌, ◌-◌, ◌<◌, ◌≤◌, Bool, true, false, cond, eqb, leb, List, [], ◌∷◌, ◌++◌, length, get_or, Ok, Err, sym, refl, ap, ◌∙◌, subst, append_assoc, append-nil, arith}
 use Rattle.std.proofs.lemmas.List.{length-append, length_push, get_or_push}
 use Rattle.std.proofs.lemmas.Bool.{and_parts, and_from, leb-true, le-leb, eq-eqb, both_ways}
-use Rattle.notation.specs.declared.LineFault.TheVariants.{TooManyLines}
-use Rattle.notation.specs.declared.PlanRefusal.{PlanRefusal}
-use Rattle.notation.specs.declared.PlanRefusal.TheVariants.{Letters, Text, Line}
+use Rattle.notation.specs.declared.PlanRefusal.TheVariants.{Letters, Text}
 use Rattle.notation.specs.Reading.{Found, found, faulty, line_of, by_line, lines_of, between, whole, read_plan}
 use Rattle.notation.specs.Grammar.{LineText, Writes, nothing, line, all_steps, Limits, ReadsWhatIsWritten}
 use Rattle.notation.proofs.Turns.{lines_end, lines_more, read_lines}
 use Rattle.notation.proofs.Lines.{line_read, line_reads, Ended, line_ends}
 
 -- ---- what was read
-
-no_plan : (e : PlanRefusal) (plan : List (List ℕ)) → ◌≡◌ {A = Result (List (List ℕ)) PlanRefusal} (Err e) (Ok plan) → ⊥
-no_plan r plan e = let z : ◌≡◌ {A = ℕ} 0 1 = cc in omega arith
 
 record PlanRead (K left room : ℕ) (had : List (List ℕ)) (t : List ℕ) (plan : List (List ℕ)) : Type 0 where
   new : List (List ℕ)
@@ -27,7 +22,7 @@ unfolding lines_of by_line
 lines_read K left room had [] plan e =
     let same : had ≡ plan = cc in
     record { new = []; is = sym same ∙ sym (append-nil had); text = nothing; lines = omega arith; steps = omega arith }
-lines_read K zero room had (b ∷ t) plan e = absurd (no_plan (Line (length had + 1) TooManyLines) plan e)
+lines_read K zero room had (b ∷ t) plan e = absurd (cc)
 lines_read K (suc left) room had (b ∷ t) plan e = by_line_lem (λ p rest. lines_read K left (room - length p) (had ++ p ∷ []) rest plan) (line_of K room (b ∷ t)) refl e
   where
     by_line_lem : ((p rest : List ℕ) → lines_of K left (room - length p) (had ++ p ∷ []) rest ≡ Ok plan → PlanRead K left (room - length p) (had ++ p ∷ []) rest plan)
@@ -46,7 +41,7 @@ lines_read K (suc left) room had (b ∷ t) plan e = by_line_lem (λ p rest. line
           lines = omega (arith, r.lines);
           steps = omega (arith, r.steps, fits);
         }
-    by_line_lem again (faulty f) q e = absurd (no_plan (Line (length had + 1) f) plan e)
+    by_line_lem again (faulty f) q e = absurd (cc)
 
 some_written : (K : ℕ) (t : List ℕ) (plan : List (List ℕ)) → Writes K t plan → 0 < length t → 0 < length plan
 some_written K t plan nothing h = absurd (omega arith)
@@ -61,8 +56,8 @@ unfolding read_plan
 sound K text plan e = by_tests (between 1 32 K) (whole text) refl refl e
   where
     by_tests : (x y : Bool) → between 1 32 K ≡ x → whole text ≡ y → cond x (cond y (lines_of K 32 64 [] text) (Err Text)) (Err Letters) ≡ Ok plan → Writes K text plan × Limits K text plan
-    by_tests false y p q e = absurd (no_plan Letters plan e)
-    by_tests true false p q e = absurd (no_plan Text plan e)
+    by_tests false y p q e = absurd (cc)
+    by_tests true false p q e = absurd (cc)
     by_tests true true p q e =
         let r = lines_read K 32 64 [] text plan e in
         let same : r.new ≡ plan = sym r.is in

@@ -1,5 +1,5 @@
 -- A text is refused if and only if there is that reason.
-use Rattle.std.proofs.Common.{◌≡◌, ℕ, zero, suc, ◌+◌, ◌-◌, ◌<◌, ◌≤◌, Bool, true, false, cond, eqb, leb, ◌⊎◌, List, [], ◌∷◌, ◌++◌, length, get_or, Ok, Err, Result, sym, refl, ap, ◌∙◌, subst, ap₂, inl, inr, append_assoc, append-nil, arith}
+use Rattle.std.proofs.Common.{◌≡◌, ℕ, zero, suc, ◌+◌, ◌-◌, ◌<◌, ◌≤◌, Bool, true, false, cond, eqb, leb, ◌⊎◌, List, [], ◌∷◌, ◌++◌, length, get_or, Err, Result, sym, refl, ap, ◌∙◌, subst, ap₂, inl, inr, append_assoc, append-nil, arith}
 use Rattle.std.proofs.lemmas.List.{length-append, length_push}
 use Rattle.std.proofs.lemmas.Bool.{and_parts, and_from, leb-true, le-leb, eqb-true, eq-eqb, both_ways}
 use Rattle.notation.specs.declared.LineFault.{LineFault}
@@ -10,7 +10,6 @@ use Rattle.notation.specs.Reading.{Found, found, faulty, steps_of, filled, line_
 use Rattle.notation.specs.Grammar.{LineText, ends, goes, Writes, nothing, line, all_steps}
 use Rattle.notation.specs.Refusals.{StepsText, none, more, WrongStep, no_sign, wrong_set, one_too_many, WrongLine, line_too_many, no_step, wrong_step, WrongAt, Proper, Reason, RefusesForItsReason}
 use Rattle.notation.proofs.Turns.{lines_full, lines_wrong, lines_more, filled_none, filled_faulty, steps_end, read_letters, read_text, read_lines}
-use Rattle.notation.proofs.Sets.{no_found}
 use Rattle.notation.proofs.Steps.{step_begins}
 use Rattle.notation.proofs.Lines.{LineRead, steps_read, line_read, line_reads, Ended, line_ends, next_ends}
 use Rattle.notation.proofs.Plans.{last_byte}
@@ -18,9 +17,6 @@ use Rattle.notation.proofs.Wrong.{StepsFail, steps_fail, here_fails, steps_befor
 
 abbrev Answer : Type 0
 Answer = Result (List (List ℕ)) PlanRefusal
-
-other_plan : (plan : List (List ℕ)) (r : PlanRefusal) → ◌≡◌ {A = Answer} (Ok plan) (Err r) → ⊥
-other_plan plan r e = let z : ◌≡◌ {A = ℕ} 0 1 = cc in omega arith
 
 same_line : (m n : ℕ) (f g : LineFault) → ◌≡◌ {A = Answer} (Err (Line m f)) (Err (Line n g)) → (n ≡ m) × (f ≡ g)
 same_line m n f g e = let p : Line m f ≡ Line n g = cc in let a : m ≡ n = cc in (sym a, cc)
@@ -46,7 +42,7 @@ line_fails K room t f l d e = by_read (steps_of K room [] t) refl e
         let r = steps_read K room [] t [] rest q in
         let is : r.front ≡ 10 ∷ [] = no_steps K r.front r.pattern r.text (ap length (sym r.more)) in
         inl (record { rest = rest; is = r.is ∙ ap (λ (x : List ℕ). x ++ rest) is; empty = let same : EmptyLine ≡ f = cc in sym same })
-    by_read (found (s ∷ ss) rest) q e = absurd (no_found f (s ∷ ss) rest (sym e))
+    by_read (found (s ∷ ss) rest) q e = absurd (cc)
     by_read (faulty g) q e = inr (steps_fail K room [] t f l d (q ∙ e))
 
 -- ---- lines
@@ -97,7 +93,7 @@ fails_then K left room m t n f p rest r some d =
 
 lines_fail : (K left room : ℕ) (had : List (List ℕ)) (t : List ℕ) (n : ℕ) (f : LineFault) → K ≤ 32 → (0 < length t → Ended t) → lines_of K left room had t ≡ Err (Line n f) → LinesFail K left room (length had) t n f
 unfolding lines_of by_line
-lines_fail K left room had [] n f l d e = absurd (other_plan had (Line n f) e)
+lines_fail K left room had [] n f l d e = absurd (cc)
 lines_fail K zero room had (b ∷ t) n f l d e =
     let s = same_line (length had + 1) n TooManyLines f e in
     fails_now K zero room (length had) (b ∷ t) n f [] [] (b ∷ t) s.0 refl none (omega arith) (subst (WrongLine K zero (room - 0) [] (b ∷ t)) s.1 (line_too_many refl refl (omega arith)))
@@ -214,7 +210,7 @@ is_line n f r e = let same : Line n f ≡ r = cc in subst IsLine same tt
 -- the lines are refused for a line
 lines_line : (K left room : ℕ) (had : List (List ℕ)) (t : List ℕ) (r : PlanRefusal) → lines_of K left room had t ≡ Err r → IsLine r
 unfolding lines_of by_line
-lines_line K left room had [] r e = absurd (other_plan had r e)
+lines_line K left room had [] r e = absurd (cc)
 lines_line K zero room had (b ∷ t) r e = is_line (length had + 1) TooManyLines r e
 lines_line K (suc left) room had (b ∷ t) r e = by_line_lem (λ p rest. lines_line K left (room - length p) (had ++ p ∷ []) rest r) (line_of K room (b ∷ t)) e
   where

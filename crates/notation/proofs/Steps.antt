@@ -7,11 +7,11 @@ use Rattle.std.proofs.lemmas.Bool.Decides.{nat_tests}
 use Rattle.pattern.specs.Patterns.{admits}
 use Rattle.notation.specs.declared.Sign.{Sign}
 use Rattle.notation.specs.declared.Sign.TheVariants.{Letter, Dot, Open, Close, Caret, Other}
-use Rattle.notation.specs.declared.LineFault.TheVariants.{BadSign, BadSet, NoLetter}
+use Rattle.notation.specs.declared.LineFault.TheVariants.{NoLetter}
 use Rattle.notation.specs.Reading.{sign_of, Found, found, faulty, every, set_of, others_of, bracket_of, by_sign, step_of}
 use Rattle.notation.specs.Grammar.{byte_of, Below, Among, SetOf, StepText, letter, dot, one_of, none_of}
 use Rattle.notation.proofs.Signs.{letter_means, dot_means, open_means, letter_sign_lem, dot_sign, open_sign}
-use Rattle.notation.proofs.Sets.{union, union_below, no_found, set_read, set_reads}
+use Rattle.notation.proofs.Sets.{union, union_below, set_read, set_reads}
 use Rattle.notation.proofs.Bitwise.{admits_or, admits_zero, admits_not, admits_one, same_sets}
 
 -- ---- sets
@@ -109,13 +109,13 @@ unfolding others_of
 others_read K (found set t) s rest e = by_test (eqb set (every K)) refl e
   where
     by_test : (x : Bool) → eqb set (every K) ≡ x → cond x (faulty NoLetter) (found (every K - set) t) ≡ found s rest → OthersRead K (found set t) s rest
-    by_test true p e = absurd (no_found NoLetter s rest e)
+    by_test true p e = absurd (cc)
     by_test false p e = let same : t ≡ rest = cc in record { set = set; is = ap (found set) same; other = eqb-false set (every K) p; left = cc }
-others_read K (faulty f) s rest e = absurd (no_found f s rest e)
+others_read K (faulty f) s rest e = absurd (cc)
 
 pub bracket_read : (K : ℕ) (t : List ℕ) (s : ℕ) (rest : List ℕ) → bracket_of K t ≡ found s rest → StepRead K (91 ∷ t) s rest
 unfolding bracket_of
-bracket_read K [] s rest e = absurd (no_found BadSet s rest e)
+bracket_read K [] s rest e = absurd (cc)
 bracket_read K (b ∷ t) s rest e = by_test (eqb b 94) refl e
   where
     by_test : (x : Bool) → eqb b 94 ≡ x → cond x (others_of K (set_of K 0 t)) (set_of K 0 (b ∷ t)) ≡ found s rest → StepRead K (91 ∷ b ∷ t) s rest
@@ -140,7 +140,7 @@ bracket_read K (b ∷ t) s rest e = by_test (eqb b 94) refl e
 
 pub step_read : (K : ℕ) (t : List ℕ) (s : ℕ) (rest : List ℕ) → step_of K t ≡ found s rest → StepRead K t s rest
 unfolding step_of by_sign
-step_read K [] s rest e = absurd (no_found BadSign s rest e)
+step_read K [] s rest e = absurd (cc)
 step_read K (b ∷ t) s rest e = by_sign_lem (sign_of K b) refl e
   where
     by_sign_lem : (x : Sign) → x ≡ sign_of K b → by_sign K t x ≡ found s rest → StepRead K (b ∷ t) s rest
@@ -154,9 +154,9 @@ step_read K (b ∷ t) s rest e = by_sign_lem (sign_of K b) refl e
         let same : t ≡ rest = cc in
         record { front = 46 ∷ []; is = ap₂ ◌∷◌ (dot_means K b p) same; text = subst (StepText K (46 ∷ [])) set (dot (every_set K)) }
     by_sign_lem Open p e = subst (λ (n : ℕ). StepRead K (n ∷ t) s rest) (sym (open_means K b p)) (bracket_read K t s rest e)
-    by_sign_lem Close p e = absurd (no_found BadSign s rest e)
-    by_sign_lem Caret p e = absurd (no_found BadSign s rest e)
-    by_sign_lem Other p e = absurd (no_found BadSign s rest e)
+    by_sign_lem Close p e = absurd (cc)
+    by_sign_lem Caret p e = absurd (cc)
+    by_sign_lem Other p e = absurd (cc)
 
 -- ---- and back
 

@@ -11,13 +11,10 @@ use Rattle.notation.specs.Reading.{sign_of, Found, found, faulty, every, closed,
 use Rattle.notation.specs.Grammar.{byte_of, Below, Among, SetOf, StepText, letter, dot, one_of, none_of}
 use Rattle.notation.specs.Refusals.{StepsText, none, more, WrongSet, no_set, no_other, WrongStep, no_sign, wrong_set, one_too_many}
 use Rattle.notation.proofs.Signs.{letter_means, dot_means, open_means, letter_sign_lem, dot_sign, open_sign}
-use Rattle.notation.proofs.Sets.{union, set_read, set_reads, no_found}
+use Rattle.notation.proofs.Sets.{union, set_read, set_reads}
 use Rattle.notation.proofs.Steps.{StepRead, step_read, letter_byte, union_set, every_set, some_letters, none_none, bracket_read, bracket_one, one_set}
 use Rattle.notation.proofs.Turns.{next_on, as_wrong, steps_wrong, steps_full, steps_more}
 use Rattle.notation.proofs.Lines.{Ended, next_steps}
-
-other_fault : {A : Type 0} (x : A) (t : List ℕ) (f : LineFault) → found x t ≡ faulty f → ⊥
-other_fault x t f e = no_found f x t (sym e)
 
 same_fault : {A : Type 0} (f g : LineFault) → ◌≡◌ {A = Found A} (faulty f) (faulty g) → f ≡ g
 same_fault f g e = cc
@@ -31,7 +28,7 @@ set_wrong K had (b ∷ t) f e = by_sign_lem (λ now. set_wrong K now t f) (sign_
   where
     by_test : (x : Bool) → cond x (faulty BadSet) (found had t) ≡ faulty f → f ≡ BadSet
     by_test true e = sym (same_fault BadSet f e)
-    by_test false e = absurd (other_fault had t f e)
+    by_test false e = absurd (cc)
 
     by_sign_lem : ((now : ℕ) → set_of K now t ≡ faulty f → f ≡ BadSet) → (x : Sign) → in_set (λ now. set_of K now t) had t x ≡ faulty f → f ≡ BadSet
     by_sign_lem again (Letter a) e = again (bit_or had (2 ^ a)) e
@@ -46,8 +43,8 @@ unfolding others_of
 others_never K set rest e = by_test (eqb set (every K)) e
   where
     by_test : (x : Bool) → cond x (faulty NoLetter) (found (every K - set) rest) ≡ faulty BadSet → ⊥
-    by_test true e = let z : ◌≡◌ {A = ℕ} 0 1 = cc in omega arith
-    by_test false e = other_fault (every K - set) rest BadSet e
+    by_test true e = cc
+    by_test false e = cc
 
 bracket_caret : (K : ℕ) (ls rest : List ℕ) → K ≤ 32 → 0 < length ls → Below K ls → bracket_of K (94 ∷ (map byte_of ls ++ 93 ∷ rest)) ≡ others_of K (found (union 0 ls) rest)
 unfolding bracket_of
@@ -56,7 +53,7 @@ bracket_caret K ls rest l h b = ap (others_of K) (set_reads K 0 ls rest l b (som
 nothing_there : (K : ℕ) (t : List ℕ) → K ≤ 32 → bracket_of K t ≡ faulty BadSet → WrongSet K t BadSet
 nothing_there K t l e =
     no_set (λ ls rest h b. (
-      λ p. no_found BadSet (union 0 ls) rest (sym e ∙ ap (bracket_of K) p ∙ bracket_one K ls rest l h b),
+      λ p. let z : faulty BadSet ≡ found (union 0 ls) rest = sym e ∙ ap (bracket_of K) p ∙ bracket_one K ls rest l h b in cc,
       λ p. others_never K (union 0 ls) rest (sym (bracket_caret K ls rest l h b) ∙ sym (ap (bracket_of K) p) ∙ e),
     ))
 
@@ -76,7 +73,7 @@ bracket_wrong K (b ∷ t) f l e = by_test (eqb b 94) refl e
         let all : SetOf K (λ a. Among a r.letters) (every K) = subst (SetOf K (λ a. Among a r.letters)) is (union_set K r.letters r.below) in
         subst (WrongSet K (b ∷ t)) (same_fault NoLetter f e)
         (no_other r.letters rest (none_none r.letters (λ w. r.some (r.set ∙ w))) r.below (ap₂ ◌∷◌ (eqb-true b 94 p) r.is) (λ a less. (all.holds a less).0 (((every_set K).holds a less).1 tt)))
-    by_all set rest p q false z e = absurd (other_fault (every K - set) rest f e)
+    by_all set rest p q false z e = absurd (cc)
 
     by_read : eqb b 94 ≡ true → (y : Found ℕ) → set_of K 0 t ≡ y → others_of K y ≡ faulty f → WrongSet K (b ∷ t) f
     by_read p (found set rest) q e = by_all set rest p q (eqb set (every K)) refl e
@@ -102,12 +99,12 @@ step_wrong K room b t f l n e = by_sign_lem (sign_of K b) refl e
         n)
 
     by_sign_lem : (x : Sign) → x ≡ sign_of K b → by_sign K t x ≡ faulty f → WrongStep K room (b ∷ t) f
-    by_sign_lem (Letter a) p e = absurd (other_fault (2 ^ a) t f e)
-    by_sign_lem Dot p e = absurd (other_fault (every K) t f e)
+    by_sign_lem (Letter a) p e = absurd (cc)
+    by_sign_lem Dot p e = absurd (cc)
     by_sign_lem Open p e = wrong_set t (ap (λ (m : ℕ). m ∷ t) (open_means K b p)) (bracket_wrong K t f l e)
-    by_sign_lem Close p e = as_sign Close p (λ a q. let z : ◌≡◌ {A = ℕ} 0 1 = cc in omega arith) (λ q. let z : ◌≡◌ {A = ℕ} 0 1 = cc in omega arith) (λ q. let z : ◌≡◌ {A = ℕ} 0 1 = cc in omega arith) (same_fault BadSign f e)
-    by_sign_lem Caret p e = as_sign Caret p (λ a q. let z : ◌≡◌ {A = ℕ} 0 1 = cc in omega arith) (λ q. let z : ◌≡◌ {A = ℕ} 0 1 = cc in omega arith) (λ q. let z : ◌≡◌ {A = ℕ} 0 1 = cc in omega arith) (same_fault BadSign f e)
-    by_sign_lem Other p e = as_sign Other p (λ a q. let z : ◌≡◌ {A = ℕ} 0 1 = cc in omega arith) (λ q. let z : ◌≡◌ {A = ℕ} 0 1 = cc in omega arith) (λ q. let z : ◌≡◌ {A = ℕ} 0 1 = cc in omega arith) (same_fault BadSign f e)
+    by_sign_lem Close p e = as_sign Close p (λ a q. cc) (λ q. cc) (λ q. cc) (same_fault BadSign f e)
+    by_sign_lem Caret p e = as_sign Caret p (λ a q. cc) (λ q. cc) (λ q. cc) (same_fault BadSign f e)
+    by_sign_lem Other p e = as_sign Other p (λ a q. cc) (λ q. cc) (λ q. cc) (same_fault BadSign f e)
 
 -- ---- the end of the text stays in sight
 
@@ -190,13 +187,13 @@ unfolding steps_of at_last goes_on_by
 steps_fail K zero had t f l d e = by_next (next_of K t) (next_fails K zero t l (some_left t d)) e
   where
     by_next : (x : Next) → NextFails K zero t x → at_last had x ≡ faulty f → StepsFail K zero t f
-    by_next (ended after) n e = absurd (other_fault had after f e)
+    by_next (ended after) n e = absurd (cc)
     by_next (step set after) n e = fails_here K zero t f (subst (WrongStep K zero t) (same_fault TooManySteps f e) (one_too_many n.front after n.is n.text refl))
     by_next (wrong g) n e = fails_here K zero t f (subst (WrongStep K zero t) (same_fault g f e) n)
 steps_fail K (suc room) had t f l d e = by_next (λ now after. steps_fail K room now after f l) (next_of K t) (next_fails K (suc room) t l (some_left t d)) e
   where
     by_next : ((now after : List ℕ) → Ended after → steps_of K room now after ≡ faulty f → StepsFail K room after f) → (x : Next) → NextFails K (suc room) t x → goes_on_by (steps_of K room) had x ≡ faulty f → StepsFail K (suc room) t f
-    by_next again (ended after) n e = absurd (other_fault had after f e)
+    by_next again (ended after) n e = absurd (cc)
     by_next again (step set after) n e = fails_later K room t f set after n (again (had ++ set ∷ []) after (ended_after K t set after d n) e)
     by_next again (wrong g) n e = fails_here K (suc room) t f (subst (WrongStep K (suc room) t) (same_fault g f e) n)
 

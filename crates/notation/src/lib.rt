@@ -84,11 +84,13 @@ pub fn reads_what_is_written()
 {}
 
 /// A text is refused so exactly if there is that reason.
+#[tactic(auto, using(crate::proofs::Refusing::refuses_for_its_reason_lem))]
 pub fn refuses_for_its_reason()
     ensures { RefusesForItsReason }
 {}
 
 /// The texts tried by hand are read as they should be.
+#[tactic(auto, using(crate::proofs::Examples::examples))]
 pub fn examples_hold()
     ensures { Examples }
 {}

@@ -1,11 +1,11 @@
 -- A plan with one pattern more.
-use Rattle.std.proofs.Common.{◌≡◌, ℕ, zero, suc, ◌+◌, ◌-◌, ◌*◌, ◌%◌, ◌^◌, ◌<◌, ◌≤◌, min, max, Bool, false, ◌≢◌, List, [], ◌∷◌, ◌++◌, map, length, get_or, take, drop, set, sym, refl, ap, ◌∙◌, subst, ap₂, inl, inr, append-nil, pow-suc, arith, pow_mono}
+use Rattle.std.proofs.Common.{◌≡◌, ℕ, zero, suc, ◌+◌, ◌-◌, ◌*◌, ◌%◌, ◌^◌, ◌<◌, ◌≤◌, min, max, Bool, false, List, [], ◌∷◌, ◌++◌, map, length, get_or, take, drop, sym, refl, ap, ◌∙◌, subst, ap₂, inl, inr, append-nil, pow-suc, arith, pow_mono}
 use lib.Bits.{bit_or}
 use lib.Lanes.{mask_l}
 use Rattle.std.specs.List.{range_with_len}
 use Rattle.std.proofs.lemmas.Nat.{pow-add}
 use Rattle.std.proofs.lemmas.List.FromFn.{length-map-range_with_len, get_or-map-range_with_len, map-range_with_len_more}
-use Rattle.std.proofs.lemmas.List.{append_assoc, map-append, length-map, length-append, length-take, length-drop, get_or-take, get_or-drop, get_or-set_same, get_or-set_other, get_or_append_left, get_or_at, get_or_default, take-append-le, drop-append-le, length_push, take_at, same_lists}
+use Rattle.std.proofs.lemmas.List.{append_assoc, map-append, length-map, length-append, length-drop, get_or_append_left, get_or_at, take-append-le, drop-append-le, length_push, take_at, same_lists}
 use Rattle.std.proofs.Math.Seq.{drop-append_seam, take-length}
 use Rattle.std.proofs.lemmas.Bool.{cases_lt}
 use Rattle.pattern.specs.Patterns.{shortest, longest, Filled}

@@ -1,5 +1,5 @@
 -- A fold that pushes one bit for each item, the last item first, finds a set.
-use Rattle.std.proofs.Common.{◌≡◌, ℕ, ◌+◌, ◌*◌, ◌%◌, ◌^◌, ◌<◌, ◌≤◌, Bool, cond, List, [], ◌∷◌, map, length, refl, ap, ◌∙◌, arith}
+use Rattle.std.proofs.Common.{◌≡◌, ℕ, ◌*◌, ◌%◌, ◌^◌, ◌≤◌, Bool, cond, List, [], ◌∷◌, map, length, refl, ap, ◌∙◌, arith}
 use mathlib.Core.List.{reverse}
 use lib.Bits.{bit_and, bit_or}
 use lib.Lanes.{mask_l}

@@ -24,9 +24,6 @@ right K text (Err e) f = (refuses_for_its_reason_lem K text e).0 (sym f)
 abbrev Answer : Type 0
 Answer = Result (List (List ℕ)) PlanRefusal
 
-clash : (plan : List (List ℕ)) (e : PlanRefusal) → ◌≡◌ {A = Answer} (Ok plan) (Err e) → ⊥
-clash plan e f = let z : ◌≡◌ {A = ℕ} 0 1 = cc in omega arith
-
 same_plan : (x y : List (List ℕ)) → ◌≡◌ {A = Answer} (Ok x) (Ok y) → x ≡ y
 same_plan x y e = cc
 
@@ -35,13 +32,13 @@ emptied K had e = go (between 1 32 K) refl e
   where
     go : (x : Bool) → between 1 32 K ≡ x → ◌≡◌ {A = Answer} (Ok had) (cond x (Ok []) (Err Letters)) → (between 1 32 K ≡ true) × (had ≡ [])
     go true p e = (p, same_plan had [] e)
-    go false p e = absurd (clash had Letters e)
+    go false p e = absurd (cc)
 
 pub refused : (K : ℕ) (text : List ℕ) (f : PlanRefusal) → Err f ≡ empty_plan K → Err f ≡ read_plan K text
 refused K text f e = go (between 1 32 K) refl e
   where
     go : (x : Bool) → between 1 32 K ≡ x → ◌≡◌ {A = Answer} (Err f) (cond x (Ok []) (Err Letters)) → Err f ≡ read_plan K text
-    go true p e = absurd (clash [] f (sym e))
+    go true p e = absurd (cc)
     go false p e = e ∙ sym (read_letters K text p)
 
 pub begun : (K : ℕ) (text : List ℕ) (plan : Plan) → Ok (patterns_of plan) ≡ empty_plan K → lines_of K (32 - length (items plan.spans)) (64 - length (items plan.steps)) (patterns_of plan) text ≡ lines_of K 32 64 [] text

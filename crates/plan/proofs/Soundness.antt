@@ -6,7 +6,6 @@ use Rattle.pattern.specs.Patterns.{admits}
 use Rattle.pattern.specs.Fits.{bit, tails, rests, steps_where, admits_first, admit_of}
 use Rattle.pattern.proofs.Bitwise.{bit_above, mask_l_append}
 use Rattle.plan.specs.Sets.{Within}
-use Rattle.plan.specs.Spans.{items}
 use Rattle.plan.specs.Views.{letters_of, patterns_of, Sound}
 use Rattle.plan.specs.declared.Plan.{Plan}
 use Rattle.plan.proofs.Building.{length_plan}

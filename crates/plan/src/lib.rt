@@ -24,10 +24,10 @@ use span::Span;
 
 mod alphabet;
 mod build;
+mod copy_vec;
 mod fits;
 mod lines;
 mod read;
-mod copy_vec;
 mod span;
 mod steps;
 

@@ -1,14 +1,13 @@
 -- The text of a plan is read as the definition reads it.
-use Rattle.std.proofs.Common.{◌≡◌, ℕ, ◌+◌, ◌-◌, ◌<◌, true, List, [], length, Ok, Err, sym, subst, ap, ap₂, ◌∙◌, arith, rules, true-eqb, false-eqb}
+use Rattle.std.proofs.Common.{◌≡◌, ℕ, ◌+◌, ◌-◌, ◌<◌, length, Ok, Err, sym, subst, ap, ap₂, ◌∙◌, arith, rules, true-eqb, false-eqb}
 use Rattle.std.proofs.lemmas.Result.{err_from_is_err_and}
 use Rattle.std.proofs.lemmas.List.{length-take}
-use Rattle.notation.specs.declared.PlanRefusal.TheVariants.{Text, Line}
+use Rattle.notation.specs.declared.PlanRefusal.TheVariants.{Line}
 use Rattle.notation.specs.declared.LineFault.{LineFault}
-use Rattle.notation.specs.Reading.{found, between, line_of, lines_of, read_plan}
-use Rattle.notation.proofs.Turns.{lines_end, lines_full, lines_wrong, lines_again, read_text, read_lines}
+use Rattle.notation.specs.Reading.{found, line_of}
+use Rattle.notation.proofs.Turns.{lines_end, lines_full, lines_wrong, lines_again, read_text}
 use Rattle.plan.specs.Spans.{items}
-use Rattle.plan.specs.Views.{letters_of, patterns_of, found_line}
-use Rattle.plan.specs.declared.Plan.{Plan}
+use Rattle.plan.specs.Views.{patterns_of, found_line}
 use Rattle.plan.specs.declared.alphabet.Alphabet.{Alphabet}
 use Rattle.plan.proofs.Building.{length_plan}
 use Rattle.plan.proofs.Reading.{right, emptied, refused, begun, lines, room, ok_before, err_before}

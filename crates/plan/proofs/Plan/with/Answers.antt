@@ -1,5 +1,5 @@
 -- A plan with one pattern more has its tables right.
-use Rattle.std.proofs.Common.{refl, sym, ◌∙◌, arith, rules, true-eqb, false-eqb}
+use Rattle.std.proofs.Common.{refl, ◌∙◌, arith, true-eqb, false-eqb}
 use Rattle.plan.specs.Spans.{items}
 use Rattle.plan.proofs.Building.{Grown, view, more_spans, more_steps, inside_new, counted_new, nonempty_new, filled_new, within_new, least_first, least_more, most_new, placed_new, admits_new, opened_new, ended_new}
 use Rattle.plan.proofs.Plan.with.Goals as goal

@@ -1,5 +1,5 @@
 -- The steps of a pattern that admit a letter.
-use Rattle.std.proofs.Common.{◌≡◌, ℕ, ◌*◌, ◌/◌, ◌%◌, ◌^◌, ◌∙◌, rules}
+use Rattle.std.proofs.Common.{◌≡◌, ◌*◌, ◌/◌, ◌%◌, ◌^◌, ◌∙◌, rules}
 use mathlib.Core.List.{reverse}
 use lib.Bits.{bit_and, bit_or}
 use Rattle.std.specs.List.{fold}
