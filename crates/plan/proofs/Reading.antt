@@ -47,6 +47,7 @@ begun K text plan e =
     let none : patterns_of plan ≡ [] = (emptied K (patterns_of plan) e).1 in
     lines_start K text (sym (length_plan plan) ∙ ap length none) (sym plan.tables.counted ∙ ap (λ (x : List (List ℕ)). length (rests x)) none) none
 
+-- of a whole text over such an alphabet the lines are read
 pub lines : (K : ℕ) (text : List ℕ) (plan : Plan) → Ok (patterns_of plan) ≡ empty_plan K → true ≡ whole text → lines_of K 32 64 [] text ≡ read_plan K text
 lines K text plan e h = sym (read_lines K text (emptied K (patterns_of plan) e).0 (sym h))
 
