@@ -1,7 +1,7 @@
 //! Why a sheet is not read, written or made.
 ghost use Rattle.std.specs.Prelude.{◌≡◌};
 ghost use Rattle.sheet.specs.Refusals.{number_of};
-ghost use Rattle.sheet.specs.declared.refusals.SheetError.TheVariants.{Refused as RefusedFor, NoMemory};
+ghost use Rattle.sheet.specs.declared.refusals.Unmade.TheVariants.{Refused as RefusedFor, NoMemory};
 
 use std::alloc::AllocError;
 
@@ -38,28 +38,31 @@ impl SheetRefusal {
     }
 }
 
-/// Why no sheet was made: it was refused, or memory was wanting, which says nothing about it.
+/// Why a value was not made: it was refused, with the refusal, or memory was wanting, which says nothing about it.
 #[derive(Clone, Copy, Debug, PartialEq, Eq)]
-pub enum SheetError {
+pub enum Unmade<R> {
     /// It was refused.
-    Refused(SheetRefusal),
+    Refused(R),
     /// There was not memory enough.
     NoMemory,
 }
+
+impl<R> From<AllocError> for Unmade<R> {
+    ghost from_gives = { λ _ r. r ≡ NoMemory };
+
+    fn from(_error: AllocError) -> Unmade<R> {
+        Unmade::NoMemory
+    }
+}
+
+/// Why no sheet was made.
+pub type SheetError = Unmade<SheetRefusal>;
 
 impl From<SheetRefusal> for SheetError {
     ghost from_gives = { λ e r. r ≡ RefusedFor e };
 
     fn from(refusal: SheetRefusal) -> SheetError {
         SheetError::Refused(refusal)
-    }
-}
-
-impl From<AllocError> for SheetError {
-    ghost from_gives = { λ _ r. r ≡ NoMemory };
-
-    fn from(_error: AllocError) -> SheetError {
-        SheetError::NoMemory
     }
 }
 
