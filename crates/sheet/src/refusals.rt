@@ -1,9 +1,10 @@
 //! Why a sheet is not read, written or made.
 ghost use Rattle.std.specs.Prelude.{◌≡◌};
 ghost use Rattle.sheet.specs.Refusals.{number_of};
+ghost use Rattle.sheet.specs.declared.refusals.GrowthError.TheVariants.{NoMemory as NoRoom};
 ghost use Rattle.sheet.specs.declared.refusals.Unmade.TheVariants.{Refused as RefusedFor, NoMemory};
 
-use std::alloc::AllocError;
+use std::alloc::{AllocError, AllocFailed};
 
 /// The question about a file that was answered by no.
 #[derive(Clone, Copy, Debug, PartialEq, Eq)]
@@ -67,10 +68,19 @@ impl From<SheetRefusal> for SheetError {
 }
 
 /// Why a sheet does not get one state more.
+// A single case that has no number of its own: `GrowthError::Full` says it more plainly than `Unmade` of a type with one value would.
 #[derive(Clone, Copy, Debug, PartialEq, Eq)]
 pub enum GrowthError {
     /// It has as many states as a sheet can have.
     Full,
     /// There was not memory enough.
     NoMemory,
+}
+
+impl<T: Drop> From<AllocFailed<T>> for GrowthError {
+    ghost from_gives = { λ _ r. r ≡ NoRoom };
+
+    fn from(_error: AllocFailed<T>) -> GrowthError {
+        GrowthError::NoMemory
+    }
 }
