@@ -1,5 +1,5 @@
 -- The table that a sheet stands for, and what its calls answer in terms of it.
-use Rattle.std.specs.Prelude.{◌≡◌, ℕ, ◌+◌, ◌<◌, Bool, true, map, length, take, is_ok, Ok, Err, vec_items, Result}
+use Rattle.std.specs.Prelude.{◌≡◌, ℕ, zero, suc, ◌+◌, ◌<◌, Bool, true, map, length, take, is_ok, Ok, Err, Some, None, Option, slice_get, vec_items, Result}
 use Rattle.sheet.specs.declared.Sheet.{Sheet}
 use Rattle.sheet.specs.declared.states.State.{State}
 use Rattle.sheet.specs.declared.refusals.Unmade.{Unmade}
@@ -9,14 +9,20 @@ use Rattle.sheet.specs.declared.refusals.GrowthError.{GrowthError}
 use Rattle.sheet.specs.declared.refusals.GrowthError.TheVariants.{Full}
 use Rattle.sheet.specs.declared.refusals.GrowthError.TheVariants.{NoMemory as NoRoom}
 use Rattle.automaton.specs.Automata.{Automaton}
+use Rattle.sheet.specs.States.{arrow_number}
 use Rattle.sheet.specs.Tables.{Entry, Table, arrow_from, marks_at, prefix_at, grown, most_states}
 
 abbrev pub entry_in : ℕ → State → Entry
-entry_in letters s = record { marks = s.marks; prefix = s.prefix; arrows = take letters s.arrows }
+entry_in letters s = record { marks = s.marks; prefix = s.prefix; arrows = take letters (map arrow_number s.arrows) }
 
 abbrev pub table_of : Sheet → Table
 table_of sheet =
     record { letters = sheet.letters; shortest = sheet.shortest; states = map (entry_in sheet.letters) (vec_items sheet.states) }
+
+-- the state of a number, if there is one: state q stands at place q - 1
+abbrev pub state_at : Sheet → ℕ → Option State
+state_at sheet zero = None
+state_at sheet (suc i) = slice_get (vec_items sheet.states) i
 
 -- the automaton that a table is, and the one that a sheet stands for
 abbrev pub automaton_in : Table → Automaton

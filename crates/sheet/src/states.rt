@@ -1,6 +1,6 @@
 //! One state of a sheet, and the limits of sheets.
 
-/// The number of a state, from 1 on; 0 stands for no state.
+/// The number of a state, from 1 on.
 pub type StateNumber = u16;
 
 /// The number of the state in which every reading starts.
@@ -19,6 +19,6 @@ pub(crate) struct State {
     pub marks: u32,
     /// Whether the words that lead here are proper prefixes of images.
     pub prefix: bool,
-    /// The state that each letter leads to; 0 is none.
-    pub arrows: [StateNumber; MOST_LETTERS],
+    /// The state that each letter leads to, if there is an arrow.
+    pub arrows: [Option<StateNumber>; MOST_LETTERS],
 }
