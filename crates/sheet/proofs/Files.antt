@@ -55,7 +55,6 @@ pub length_entry : (letters states : ℕ) (e : Entry) → LawfulEntry letters st
 length_entry letters states e l = let a = l.arrows in omega arith
 
 pub decides_up_to : (most : ℕ) (bytes : List ℕ) → Decides (up_to most bytes) (AllByRecursion (λ b. b ≤ most) bytes)
-unfolding up_to
 decides_up_to most bytes =
     Decides-by_and (λ b. leb b most) (λ b. b ≤ most) (up_to most) (λ b. (leb-true b most, le-leb b most)) refl (λ _ _. refl) bytes
 
@@ -119,7 +118,6 @@ module _ (letters states : ℕ) where
       cc
 
   pub entries_sound : (es : List Entry) → AllByRecursion (LawfulEntry letters states) es → sound states (map entry_bytes es) ≡ true
-  unfolding sound
   entries_sound [] l = refl
   entries_sound (e ∷ es) l = and_from _ _ (entry_sound letters states e l.0) (entries_sound es l.1)
 
@@ -127,7 +125,7 @@ module _ (letters states : ℕ) where
   pub parts_back :
       (n : ℕ) (body : List ℕ) → length body ≡ n * entry_size letters → Bytes body → sound states (cut (entry_size letters) n body) ≡ true
       → flat_map entry_bytes (map entry_of (cut (entry_size letters) n body)) ≡ body
-  unfolding cut sound
+  unfolding cut
   parts_back zero body h b s = sym (nil_from_length body (h ∙ zero-mul (entry_size letters)))
   parts_back (suc n) body h b s =
       let size : ℕ = entry_size letters in
@@ -143,7 +141,7 @@ module _ (letters states : ℕ) where
   pub parts_lawful :
       (n : ℕ) (body : List ℕ) → length body ≡ n * entry_size letters → Bytes body → sound states (cut (entry_size letters) n body) ≡ true
       → AllByRecursion (LawfulEntry letters states) (map entry_of (cut (entry_size letters) n body))
-  unfolding cut sound
+  unfolding cut
   parts_lawful zero body h b s = tt
   parts_lawful (suc n) body h b s =
       let size : ℕ = entry_size letters in

@@ -7,6 +7,7 @@ ghost use Rattle.sheet.specs.States.{Each, HasMarks, IsWide, IsInside, IsBare};
 
 mod answers;
 mod building;
+mod layout;
 mod reading;
 pub mod refusals;
 mod states;

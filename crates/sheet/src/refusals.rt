@@ -6,21 +6,21 @@ ghost use Rattle.sheet.specs.declared.refusals.Unmade.TheVariants.{Refused as Re
 
 use std::alloc::{AllocError, AllocFailed};
 
-/// The question about a file that was answered by no.
+/// The question about a file that was answered by no. Each has its number.
 #[derive(Clone, Copy, Debug, PartialEq, Eq)]
 pub enum SheetRefusal {
     /// Are there the 4 bytes of the head?
-    Head,
+    Head = 11,
     /// Is the edition 1?
-    Edition,
+    Edition = 12,
     /// Is there a state, and are there 1 to 32 letters?
-    Counts,
+    Counts = 13,
     /// Is the file as long as its states take?
-    Length,
+    Length = 14,
     /// Is every prefix mark 0 or 1, and every arrow at most the number of states?
-    Content,
+    Content = 15,
     /// Does the buffer hold the file?
-    Buffer,
+    Buffer = 16,
 }
 
 impl SheetRefusal {
@@ -28,14 +28,7 @@ impl SheetRefusal {
     pub fn number(self) -> u8
         ensures answer { result ≡ number_of self }
     {
-        match self {
-            SheetRefusal::Head => 11,
-            SheetRefusal::Edition => 12,
-            SheetRefusal::Counts => 13,
-            SheetRefusal::Length => 14,
-            SheetRefusal::Content => 15,
-            SheetRefusal::Buffer => 16,
-        }
+        self as u8
     }
 }
 

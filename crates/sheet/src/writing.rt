@@ -5,7 +5,7 @@ ghost use Rattle.sheet.specs.States.{arrow_number};
 ghost use Rattle.sheet.specs.Files.{entry_size, entry_bytes, read_file, written, overwritten};
 ghost use Rattle.sheet.specs.Views.{table_of, entry_in};
 
-use crate::reading::{BEFORE_ARROWS, EDITION, HEAD, entry_size};
+use crate::layout::{BEFORE_ARROWS, EDITION, HEAD, entry_size};
 use crate::states::State;
 use crate::{Sheet, SheetRefusal, StateNumber};
 
