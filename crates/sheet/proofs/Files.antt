@@ -86,12 +86,6 @@ unfolding cut
 length_cut size zero bytes = refl
 length_cut size (suc n) bytes = ap suc (length_cut size n (drop size bytes))
 
--- one part more
-pub cut_more : (size n : ℕ) (bytes : List ℕ) → 0 < n → cut size n bytes ≡ take size bytes ∷ cut size (n - 1) (drop size bytes)
-unfolding cut
-cut_more size zero bytes h = absurd (omega arith)
-cut_more size (suc n) bytes h = let e : suc n - 1 ≡ n = omega arith in rw e
-
 module _ (letters states : ℕ) where
   pub length_entries :
       (es : List Entry) → AllByRecursion (LawfulEntry letters states) es → length (flat_map entry_bytes es) ≡ length es * entry_size letters
@@ -194,13 +188,6 @@ module _ (bytes : List ℕ) where
         },
         ok_same (table_in bytes) t u.1,
       )
-
-ok_some : (r : Result Table SheetRefusal) → is_ok r ≡ true → (t : Table) × (r ≡ Ok t)
-ok_some (Ok t) h = (t, refl)
-ok_some (Err e) h = absurd (false≢true h)
-
-pub ok_accepted : (bytes : List ℕ) → is_ok (read_file bytes) ≡ true → Accepted bytes
-ok_accepted bytes h = let p = ok_some (read_file bytes) h in (accepted bytes p.0 p.1).0
 
 pub record Counted (states letters : ℕ) : Type 0 where
   pub some : 1 ≤ states

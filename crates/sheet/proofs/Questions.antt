@@ -4,7 +4,6 @@ use Rattle.std.proofs.lemmas.List.{at_drop_more, at_drop_all}
 use Rattle.std.proofs.lemmas.Bool.{le-leb, lt-leb, eq-eqb, ne_eqb, and_parts, and_left, and_right, and_from}
 use Rattle.sheet.specs.declared.refusals.SheetRefusal.TheVariants.{Head, Edition, Counts, Length, Content}
 use Rattle.sheet.specs.Files.{entry_size, cut, up_to, sound_entry, sound, parts, is_counted, read_file}
-use Rattle.sheet.proofs.Files.{cut_more}
 
 -- ---- refusals
 

@@ -21,6 +21,7 @@ impl Sheet {
     }
 
     /// The number of states.
+    #[tactic(auto, using(crate::proofs::Places::count_is))]
     pub fn states(&self) -> usize
         ensures answer { result ≡ length (table_of self.now).states }
     {
