@@ -4,5 +4,6 @@ pub mod Places
 pub mod Files
 pub mod Questions
 pub mod Heads
+pub mod Chunks
 pub mod Parts
 pub mod Writes

@@ -74,12 +74,8 @@ impl Head {
         requires { length body.now ≡ self.states * entry_size self.letters }
         ensures answer { result ≡ sound_parts self.states (cut (entry_size self.letters) self.states body.now) }
     {
-        for part in body.chunks_exact(entry_size(self.letters)) {
-            if !self.is_sound(part) {
-                return false;
-            }
-        }
-        true
+        body.chunks_exact(entry_size(self.letters))
+            .all(|part| self.is_sound(part))
     }
 
     /// The state that a sound part of the file writes.

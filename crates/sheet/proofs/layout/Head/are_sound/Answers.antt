@@ -1,29 +1,16 @@
-use Rattle.std.proofs.Common.{◌≡◌, ℕ, ◌<◌, ◌++◌, ◌∷◌, List, Bool, true, length, sym, ap, ◌∙◌, arith}
-use Rattle.std.specs.Slice.Iter.{chunks_exact_rest, chunks_exact_size}
-use Rattle.std.proofs.lemmas.Bool.{and_left}
+use Rattle.std.proofs.Common.{◌≡◌, ℕ, List, ap, ◌∙◌, length, arith, rules, tests}
+use Rattle.std.proofs.lemmas.Iterator.Search.{all_from_yields_List}
 use Rattle.sheet.specs.Files.{entry_size, cut, sound, sound_entry}
-use Rattle.sheet.proofs.Parts.{Left, left_next, left_none, left_then}
+use Rattle.sheet.proofs.Chunks.{chunks_are}
 use Rattle.sheet.proofs.layout.Head.are_sound.Goals as goal
-use Rattle.sheet.proofs.layout.Head.are_sound.Goals.{In-Some}
-
--- whether the part that is looked at and those behind it are sound
-next : (c : In-Some) → Left (entry_size c.args.self.letters) (chunks_exact_rest c.next.new.self) (λ parts.
-    sound c.args.self.states (c.in-Some.part.now ∷ parts) ≡ sound c.args.self.states (cut (entry_size c.args.self.letters) c.args.self.states c.args.body.now))
-next c =
-    left_next (entry_size c.args.self.letters) _ (chunks_exact_rest c.loop-part.part-iterator) c.in-Some.part.now (chunks_exact_rest c.next.new.self)
-    (omega arith) c.in-Some.ensures.steps.1.0 (c.in-Some.ensures.steps.1.1 ∙ c.loop-part.invariant.2) c.loop-part.invariant.3
-
-pub returns-then-not-is_sound : goal.returns-then-not-is_sound
-returns-then-not-is_sound c =
-    let left = next (goal.at.returns-then-not-is_sound c).In-Some in
-    record { answer = sym (and_left _ _ (sym c.if-not-is_sound.ensures.answer)) ∙ left.holds }
-
-pub loop-part-preserved : goal.loop-part-preserved
-loop-part-preserved c =
-    let left = next (goal.at.loop-part-preserved c).In-Some in
-    let yes : sound_entry c.args.self.states c.in-Some.part.now ≡ true = sym c.if-not-is_sound.ensures.answer in
-    (omega (arith, c.loop-part.invariant.0, c.in-Some.ensures.steps.0), tt, c.in-Some.ensures.steps.0 ∙ c.loop-part.invariant.2, left_then _ _ _ _ (λ parts e. rw yes at e) left)
 
 pub returns : goal.returns
 returns c =
-    record { answer = left_none (entry_size c.args.self.letters) _ (chunks_exact_rest c.loop-part.part-iterator) (omega (arith, c.in-None.ensures.steps.1.0, c.loop-part.invariant.2)) c.loop-part.invariant.3 }
+    let h = c.args.self in
+    let size = c.chunks_exact.ensures.size ∙ c.entry_size.ensures.answer in
+    let chunks = chunks_are (entry_size h.letters) (omega arith) c.chunks_exact.result h.states size (ap length c.chunks_exact.ensures.rest ∙ c.requires) in
+    record {
+      answer =
+          all_from_yields_List (sound_entry h.states) _ _ c.all.result c.all.ensures.ran chunks (λ x b q k. search (rules, tests))
+          ∙ ap (λ (xs : List ℕ). sound h.states (cut (entry_size h.letters) h.states xs)) c.chunks_exact.ensures.rest;
+    }
