@@ -32,7 +32,8 @@ impl Sheet {
     fn state(&self, state: StateNumber) -> Option<&State>
         ensures answer { option_copied result ≡ state_at self.now state }
     {
-        self.states.get((state as usize).checked_sub(1)?)
+        // For 0 the place wraps round, past all states: one comparison finds out about both ends.
+        self.states.get(state.wrapping_sub(1) as usize)
     }
 
     /// The state that the letter leads to from a state, if it has an arrow there.

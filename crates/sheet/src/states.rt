@@ -13,7 +13,7 @@ pub const MOST_STATES: usize = 255;
 pub const MOST_LETTERS: usize = 32;
 
 /// A state of the automaton. It has room for an arrow by every letter of the largest alphabet, so that following one takes one look.
-#[derive(Clone, Copy)]
+#[derive(Clone, Copy, Debug, PartialEq, Eq)]
 pub(crate) struct State {
     /// Bit j is set where the words that lead here are images of pattern j.
     pub marks: u32,
