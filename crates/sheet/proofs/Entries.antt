@@ -6,7 +6,7 @@ use Rattle.std.proofs.lemmas.List.{get_or_past, get_or-take, length-take}
 use Rattle.std.proofs.lemmas.Bool.{cases_lt}
 use Rattle.sheet.specs.declared.Sheet.{Sheet}
 use Rattle.sheet.specs.declared.states.State.{State}
-use Rattle.sheet.specs.States.{arrow_number, absent, IsInside, Good}
+use Rattle.sheet.specs.States.{arrow_number, absent, Good}
 use Rattle.sheet.specs.Tables.{Entry, blank, entry_at, arrow_of, arrow_from}
 use Rattle.sheet.specs.Views.{entry_in, table_of, state_at}
 use Rattle.sheet.proofs.Goods.{number_at, sheet_good}

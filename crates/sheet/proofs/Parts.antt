@@ -1,7 +1,7 @@
 -- The state that a part of a file writes, as the code makes it.
-use Rattle.std.proofs.Common.{◌≡◌, ℕ, zero, suc, ◌+◌, ◌-◌, ◌*◌, ◌^◌, ◌<◌, ◌≤◌, Bool, true, eqb, leb, List, [], ◌∷◌, ◌++◌, map, length, get_or, take, drop, Some, None, Option, sym, refl, ap, ◌∙◌, ⊎_elim, subst, suc-mul, zero-mul, arith}
+use Rattle.std.proofs.Common.{◌≡◌, ℕ, zero, suc, ◌+◌, ◌*◌, ◌^◌, ◌<◌, ◌≤◌, Bool, true, eqb, leb, List, [], ◌∷◌, ◌++◌, map, length, get_or, take, drop, Some, None, Option, sym, refl, ap, ◌∙◌, ⊎_elim, subst, suc-mul, zero-mul, arith}
 use Rattle.std.proofs.ByRecursion.{All-get_or}
-use Rattle.std.proofs.lemmas.List.{append_assoc, append-nil, map_push, ext_get_or, get_or-take, length-take, length-drop, length-map, length-append, take_at, drop_at}
+use Rattle.std.proofs.lemmas.List.{append_assoc, map_push, ext_get_or, get_or-take, length-take, length-drop, length-map, length-append, take_at, drop_at}
 use Rattle.std.proofs.lemmas.Bool.{and_parts, cases_lt}
 use Rattle.sheet.specs.declared.states.State.{State}
 use Rattle.sheet.specs.States.{arrow_number, Good}

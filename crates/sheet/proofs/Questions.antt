@@ -1,9 +1,8 @@
 -- The questions about a file, as the code puts them.
-use Rattle.std.proofs.Common.{◌≡◌, ℕ, ◌+◌, ◌-◌, ◌*◌, ◌<◌, ◌≤◌, Bool, true, false, ◌&&◌, leb, ◌⊎◌, List, length, get_or, take, drop, Err, sym, ap, ◌∙◌, ⊎_elim, suc-mul, arith}
-use Rattle.std.proofs.lemmas.List.{at_drop_more, at_drop_all}
-use Rattle.std.proofs.lemmas.Bool.{le-leb, lt-leb, eq-eqb, ne_eqb, and_parts, and_left, and_right, and_from}
+use Rattle.std.proofs.Common.{◌≡◌, ℕ, ◌+◌, ◌*◌, ◌<◌, ◌≤◌, true, false, leb, ◌⊎◌, List, length, get_or, Err, ⊎_elim, arith}
+use Rattle.std.proofs.lemmas.Bool.{le-leb, lt-leb, eq-eqb, ne_eqb, and_left, and_right, and_from}
 use Rattle.sheet.specs.declared.refusals.SheetRefusal.TheVariants.{Head, Edition, Counts, Length, Content}
-use Rattle.sheet.specs.Files.{entry_size, cut, up_to, sound_entry, sound, parts, is_counted, read_file}
+use Rattle.sheet.specs.Files.{entry_size, sound, parts, is_counted, read_file}
 
 -- ---- refusals
 

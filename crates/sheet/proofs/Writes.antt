@@ -5,7 +5,7 @@ use lib.Seq.{paste}
 use borrow.Rule.Slice.PartMut.{put_mid}
 use Rattle.std.specs.List.{flat_map}
 use Rattle.std.proofs.lemmas.List.Edits.{paste-paste, paste_all}
-use Rattle.std.proofs.lemmas.List.{take_all, take_at, length-take-le, take-take, take_more, map_push, flat_map_more, get_or_default, length-append, length-map, append-nil, drop_all, drop-drop}
+use Rattle.std.proofs.lemmas.List.{take_all, take_at, length-take-le, take_more, map_push, flat_map_more, get_or_default, length-append, length-map, append-nil, drop_all, drop-drop}
 use Rattle.sheet.specs.declared.states.State.{State}
 use Rattle.sheet.specs.States.{arrow_number, absent, Each, IsWide, Good}
 use Rattle.sheet.specs.Tables.{Table, Lawful, most_letters}

@@ -1,5 +1,5 @@
 -- The table that a sheet stands for, and what its calls answer in terms of it.
-use Rattle.std.specs.Prelude.{◌≡◌, ℕ, zero, suc, ◌+◌, ◌<◌, Bool, true, map, length, take, is_ok, Ok, Err, Some, None, Option, slice_get, vec_items, Result}
+use Rattle.std.specs.Prelude.{◌≡◌, ℕ, zero, suc, ◌+◌, ◌<◌, Bool, true, map, length, take, is_ok, Ok, Err, None, Option, slice_get, vec_items, Result}
 use Rattle.sheet.specs.declared.Sheet.{Sheet}
 use Rattle.sheet.specs.declared.states.State.{State}
 use Rattle.sheet.specs.declared.refusals.Unmade.{Unmade}

@@ -20,7 +20,7 @@ pub(crate) fn entry_size(letters: u8) -> usize
 }
 
 /// The head of a file: the numbers of states and letters, and the shortest length.
-#[derive(Clone, Copy)]
+#[derive(Clone, Copy, Debug, PartialEq, Eq)]
 pub(crate) struct Head {
     pub states: u8,
     pub letters: u8,

@@ -141,5 +141,4 @@ impl Sheet {
 /// Reading a file and writing a table are inverse.
 pub fn reading_inverts_writing()
     ensures { ReadingInvertsWriting }
-{
-}
+{}

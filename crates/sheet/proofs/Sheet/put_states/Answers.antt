@@ -1,4 +1,4 @@
-use Rattle.std.proofs.Common.{◌≡◌, ℕ, ◌+◌, ◌-◌, ◌*◌, ◌<◌, ◌≤◌, false, List, [], length, get_or, None, vec_items, vec_len, sym, ap, ◌∙◌, add-one, mul-le-mul_right, suc-mul, arith}
+use Rattle.std.proofs.Common.{◌≡◌, ℕ, ◌+◌, ◌*◌, ◌<◌, ◌≤◌, false, List, [], length, get_or, vec_items, vec_len, sym, ap, ◌∙◌, add-one, mul-le-mul_right, suc-mul, arith}
 use lib.Seq.{paste}
 use Rattle.std.proofs.lemmas.List.{get_or_default, length-take, length-drop}
 use Rattle.std.proofs.lemmas.Slice.{put_mid-paste}

@@ -1,6 +1,6 @@
 use Rattle.std.proofs.Common.{◌≡◌, ℕ, ◌+◌, ◌*◌, length, Ok, vec_len, ap, ◌∙◌, sym, arith}
 use Rattle.std.proofs.lemmas.List.{length-append, length-take, length-drop}
-use Rattle.sheet.specs.Files.{entry_size, file_of}
+use Rattle.sheet.specs.Files.{file_of}
 use Rattle.sheet.specs.Views.{table_of}
 use Rattle.sheet.proofs.Goods.{sheet_lawful}
 use Rattle.sheet.proofs.Writes.{file_long, file_written, no_room, room, read_again}

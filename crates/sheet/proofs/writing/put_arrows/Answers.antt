@@ -1,5 +1,5 @@
-use Rattle.std.proofs.Common.{◌≡◌, map, get_or, None, sym, ◌∙◌, arith, rules}
-use Rattle.std.proofs.lemmas.List.{get_or_default, length-map}
+use Rattle.std.proofs.Common.{◌≡◌, map, get_or, sym, ◌∙◌, arith}
+use Rattle.std.proofs.lemmas.List.{length-map}
 use Rattle.sheet.specs.States.{arrow_number}
 use Rattle.sheet.proofs.Goods.{number_at}
 use Rattle.sheet.proofs.Writes.{arrow_written}

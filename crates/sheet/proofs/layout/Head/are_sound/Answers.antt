@@ -1,4 +1,4 @@
-use Rattle.std.proofs.Common.{◌≡◌, ℕ, List, ap, ◌∙◌, length, arith, rules, tests}
+use Rattle.std.proofs.Common.{ℕ, List, ap, ◌∙◌, length, arith, rules, tests}
 use Rattle.std.proofs.lemmas.Iterator.Search.{all_from_yields_List}
 use Rattle.sheet.specs.Files.{entry_size, cut, sound, sound_entry}
 use Rattle.sheet.proofs.Chunks.{chunks_are}

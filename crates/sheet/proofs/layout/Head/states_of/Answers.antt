@@ -1,10 +1,10 @@
-use Rattle.std.proofs.Common.{◌≡◌, ℕ, ◌+◌, ◌<◌, true, List, [], ◌++◌, ◌∷◌, map, length, vec_items, vec_len, sym, ap, ◌∙◌, subst, arith, rules}
+use Rattle.std.proofs.Common.{◌≡◌, ℕ, ◌+◌, true, List, [], ◌++◌, ◌∷◌, map, length, vec_items, vec_len, sym, ap, ◌∙◌, subst, arith, rules}
 use Rattle.std.specs.Slice.Iter.{chunks_exact_rest, chunks_exact_size}
 use Rattle.std.proofs.lemmas.Bool.{and_parts}
 use Rattle.std.proofs.lemmas.List.{append-nil}
 use Rattle.sheet.specs.declared.states.State.{State}
 use Rattle.sheet.specs.States.{Each, Good}
-use Rattle.sheet.specs.Files.{entry_size, cut, sound, sound_entry, entry_of}
+use Rattle.sheet.specs.Files.{entry_size, cut, sound, entry_of}
 use Rattle.sheet.specs.Views.{entry_in}
 use Rattle.sheet.proofs.Files.{length_cut}
 use Rattle.sheet.proofs.Goods.{each_none, each_push, absent_good}
@@ -65,8 +65,7 @@ pub loop-part-preserved : goal.loop-part-preserved
 loop-part-preserved c =
     let h = c.args.self in
     let items = vec_items c.loop-part.all in
-    let pushed : vec_items c.push_reserved.new.self ≡ items ++ c.state_of.result ∷ [] = c.push_reserved.ensures.items in
-    (
+    let pushed : vec_items c.push_reserved.new.self ≡ items ++ c.state_of.result ∷ [] = c.push_reserved.ensures.items in (
       omega (arith, c.loop-part.invariant.0, c.in-Some.ensures.steps.0),
       tt,
       c.in-Some.ensures.steps.0 ∙ c.loop-part.invariant.2,
