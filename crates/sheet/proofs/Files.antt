@@ -1,9 +1,9 @@
 -- Reading a file and writing a table are inverse.
-use Rattle.std.proofs.Common.{◌≡◌, ℕ, zero, suc, ◌+◌, ◌-◌, ◌*◌, ◌/◌, ◌%◌, ◌^◌, ◌<◌, ◌≤◌, Bool, true, false, cond, ◌&&◌, eqb, leb, List, [], ◌∷◌, ◌++◌, map, length, get_or, take, drop, is_ok, Ok, Err, Decides, Result, sym, refl, ap, ◌∙◌, subst, suc-mul, zero-mul, arith}
+use Rattle.std.proofs.Common.{◌≡◌, ℕ, zero, suc, ◌+◌, ◌*◌, ◌/◌, ◌%◌, ◌^◌, ◌<◌, ◌≤◌, Bool, true, false, cond, ◌&&◌, eqb, leb, List, [], ◌∷◌, ◌++◌, map, length, get_or, take, drop, Ok, Decides, Result, sym, refl, ap, ◌∙◌, subst, suc-mul, zero-mul, arith}
 use Rattle.std.specs.List.{flat_map, AllByRecursion}
 use Rattle.std.proofs.ByRecursion.{All-take, All-drop, All-from_get_or, Decides-by_and}
 use Rattle.std.proofs.lemmas.List.{length-append, length-take, length-drop, length-map, take_at, drop_at, take-append-drop, nil_from_length}
-use Rattle.std.proofs.lemmas.Bool.{false≢true, and_parts, and_from, leb-true, le-leb, eqb-true, eq-eqb}
+use Rattle.std.proofs.lemmas.Bool.{and_parts, and_from, leb-true, le-leb, eqb-true, eq-eqb}
 use Rattle.sheet.specs.declared.refusals.SheetRefusal.{SheetRefusal}
 use Rattle.sheet.specs.declared.refusals.SheetRefusal.TheVariants.{Head, Edition, Counts, Length, Content}
 use Rattle.sheet.specs.Tables.{Entry, Table, LawfulEntry, Lawful}
@@ -55,7 +55,6 @@ pub length_entry : (letters states : ℕ) (e : Entry) → LawfulEntry letters st
 length_entry letters states e l = let a = l.arrows in omega arith
 
 pub decides_up_to : (most : ℕ) (bytes : List ℕ) → Decides (up_to most bytes) (AllByRecursion (λ b. b ≤ most) bytes)
-unfolding up_to
 decides_up_to most bytes =
     Decides-by_and (λ b. leb b most) (λ b. b ≤ most) (up_to most) (λ b. (leb-true b most, le-leb b most)) refl (λ _ _. refl) bytes
 
@@ -87,12 +86,6 @@ unfolding cut
 length_cut size zero bytes = refl
 length_cut size (suc n) bytes = ap suc (length_cut size n (drop size bytes))
 
--- one part more
-pub cut_more : (size n : ℕ) (bytes : List ℕ) → 0 < n → cut size n bytes ≡ take size bytes ∷ cut size (n - 1) (drop size bytes)
-unfolding cut
-cut_more size zero bytes h = absurd (omega arith)
-cut_more size (suc n) bytes h = let e : suc n - 1 ≡ n = omega arith in rw e
-
 module _ (letters states : ℕ) where
   pub length_entries :
       (es : List Entry) → AllByRecursion (LawfulEntry letters states) es → length (flat_map entry_bytes es) ≡ length es * entry_size letters
@@ -119,7 +112,6 @@ module _ (letters states : ℕ) where
       cc
 
   pub entries_sound : (es : List Entry) → AllByRecursion (LawfulEntry letters states) es → sound states (map entry_bytes es) ≡ true
-  unfolding sound
   entries_sound [] l = refl
   entries_sound (e ∷ es) l = and_from _ _ (entry_sound letters states e l.0) (entries_sound es l.1)
 
@@ -127,7 +119,7 @@ module _ (letters states : ℕ) where
   pub parts_back :
       (n : ℕ) (body : List ℕ) → length body ≡ n * entry_size letters → Bytes body → sound states (cut (entry_size letters) n body) ≡ true
       → flat_map entry_bytes (map entry_of (cut (entry_size letters) n body)) ≡ body
-  unfolding cut sound
+  unfolding cut
   parts_back zero body h b s = sym (nil_from_length body (h ∙ zero-mul (entry_size letters)))
   parts_back (suc n) body h b s =
       let size : ℕ = entry_size letters in
@@ -143,7 +135,7 @@ module _ (letters states : ℕ) where
   pub parts_lawful :
       (n : ℕ) (body : List ℕ) → length body ≡ n * entry_size letters → Bytes body → sound states (cut (entry_size letters) n body) ≡ true
       → AllByRecursion (LawfulEntry letters states) (map entry_of (cut (entry_size letters) n body))
-  unfolding cut sound
+  unfolding cut
   parts_lawful zero body h b s = tt
   parts_lawful (suc n) body h b s =
       let size : ℕ = entry_size letters in
@@ -196,13 +188,6 @@ module _ (bytes : List ℕ) where
         },
         ok_same (table_in bytes) t u.1,
       )
-
-ok_some : (r : Result Table SheetRefusal) → is_ok r ≡ true → (t : Table) × (r ≡ Ok t)
-ok_some (Ok t) h = (t, refl)
-ok_some (Err e) h = absurd (false≢true h)
-
-pub ok_accepted : (bytes : List ℕ) → is_ok (read_file bytes) ≡ true → Accepted bytes
-ok_accepted bytes h = let p = ok_some (read_file bytes) h in (accepted bytes p.0 p.1).0
 
 pub record Counted (states letters : ℕ) : Type 0 where
   pub some : 1 ≤ states

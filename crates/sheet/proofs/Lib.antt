@@ -3,5 +3,7 @@ pub mod Goods
 pub mod Places
 pub mod Files
 pub mod Questions
+pub mod Heads
+pub mod Chunks
 pub mod Parts
 pub mod Writes

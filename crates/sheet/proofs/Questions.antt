@@ -1,49 +1,8 @@
 -- The questions about a file, as the code puts them.
-use Rattle.std.proofs.Common.{◌≡◌, ℕ, ◌+◌, ◌-◌, ◌*◌, ◌<◌, ◌≤◌, Bool, true, false, ◌&&◌, leb, ◌⊎◌, List, length, get_or, take, drop, Err, sym, ap, ◌∙◌, ⊎_elim, suc-mul, arith}
-use Rattle.std.proofs.lemmas.List.{at_drop_more, at_drop_all}
-use Rattle.std.proofs.lemmas.Bool.{le-leb, lt-leb, eq-eqb, ne_eqb, and_parts, and_left, and_right, and_from}
+use Rattle.std.proofs.Common.{◌≡◌, ℕ, ◌+◌, ◌*◌, ◌<◌, ◌≤◌, true, false, leb, ◌⊎◌, List, length, get_or, Err, ⊎_elim, arith}
+use Rattle.std.proofs.lemmas.Bool.{le-leb, lt-leb, eq-eqb, ne_eqb, and_left, and_right, and_from}
 use Rattle.sheet.specs.declared.refusals.SheetRefusal.TheVariants.{Head, Edition, Counts, Length, Content}
-use Rattle.sheet.specs.Files.{entry_size, cut, up_to, sound_entry, sound, parts, is_counted, read_file}
-use Rattle.sheet.proofs.Files.{cut_more}
-
-module _ (most : ℕ) (bytes : List ℕ) (i : ℕ) (h : i < length bytes) where
-  pub up_to_goes : get_or bytes i 0 ≤ most → up_to most (drop i bytes) ≡ up_to most (drop (i + 1) bytes)
-  unfolding up_to
-  up_to_goes l = let e = le-leb (get_or bytes i 0) most l in at_drop_more (up_to most) bytes i 0 h ∙ rw e
-
-  pub up_to_stops : most < get_or bytes i 0 → up_to most (drop i bytes) ≡ false
-  unfolding up_to
-  up_to_stops l = let e = lt-leb (get_or bytes i 0) most l in at_drop_more (up_to most) bytes i 0 h ∙ rw e
-
-pub up_to_ends : (most : ℕ) (bytes : List ℕ) (i : ℕ) → length bytes ≤ i → up_to most (drop i bytes) ≡ true
-unfolding up_to
-up_to_ends most bytes i h = at_drop_all (up_to most) bytes i h
-
-module _ (states size n : ℕ) (rest : List ℕ) where
-  sound_step : 0 < n → sound states (cut size n rest) ≡ (sound_entry states (take size rest) && sound states (cut size (n - 1) (drop size rest)))
-  unfolding sound
-  sound_step h = ap (sound states) (cut_more size n rest h)
-
-  pub sound_goes : 0 < n → sound_entry states (take size rest) ≡ true → sound states (cut size n rest) ≡ sound states (cut size (n - 1) (drop size rest))
-  sound_goes h e = sound_step h ∙ ap (λ (b : Bool). b && sound states (cut size (n - 1) (drop size rest))) e
-
-  -- where all states are sound, the first and the others are
-  pub sound_first : 0 < n → sound states (cut size n rest) ≡ true → (sound_entry states (take size rest) ≡ true) × (sound states (cut size (n - 1) (drop size rest)) ≡ true)
-  sound_first h e = and_parts (sound_entry states (take size rest)) (sound states (cut size (n - 1) (drop size rest))) (sym (sound_step h) ∙ e)
-
-  pub sound_stops : 0 < n → sound_entry states (take size rest) ≡ false → sound states (cut size n rest) ≡ false
-  sound_stops h e = sound_step h ∙ and_left _ _ e
-
-  pub sound_ends : n ≡ 0 → sound states (cut size n rest) ≡ true
-  unfolding sound cut
-  sound_ends e = rw e
-
--- the parts that are left are one part less
-pub less_long : (n size long : ℕ) → 0 < n → long ≡ n * size → (size ≤ long) × (long - size ≡ (n - 1) * size)
-less_long n size long h e =
-    let m = suc-mul (n - 1) size in
-    let s : n * size ≡ (n - 1) * size + size = ap (λ (k : ℕ). k * size) (omega arith) ∙ m in
-    (omega arith, omega arith)
+use Rattle.sheet.specs.Files.{entry_size, sound, parts, is_counted, read_file}
 
 -- ---- refusals
 

@@ -1,12 +1,13 @@
 -- What a buffer holds, state by state.
-use Rattle.std.proofs.Common.{◌≡◌, ℕ, zero, suc, ◌+◌, ◌*◌, ◌<◌, ◌≤◌, Bool, true, false, cond, List, [], ◌∷◌, ◌++◌, map, length, get_or, take, drop, Ok, Err, vec_items, vec_len, sym, refl, ap, ◌∙◌, subst, suc-mul, zero-add, zero-mul, add-one, arith}
+use Rattle.std.proofs.Common.{◌≡◌, ℕ, zero, suc, ◌+◌, ◌*◌, ◌<◌, ◌≤◌, Bool, true, false, cond, List, [], ◌∷◌, ◌++◌, map, length, get_or, set, take, drop, Ok, Err, vec_items, vec_len, sym, refl, ap, ◌∙◌, subst, suc-mul, zero-add, zero-mul, add-one, arith}
 use mir.Val.{bool_byte}
 use lib.Seq.{paste}
+use borrow.Rule.Slice.PartMut.{put_mid}
 use Rattle.std.specs.List.{flat_map}
 use Rattle.std.proofs.lemmas.List.Edits.{paste-paste, paste_all}
-use Rattle.std.proofs.lemmas.List.{take_all, take_at, length-take-le, take-take, take_more, map_push, flat_map_more, get_or_default, length-append}
+use Rattle.std.proofs.lemmas.List.{take_all, take_at, length-take-le, take_more, map_push, flat_map_more, get_or_default, length-append, length-map, append-nil, drop_all, drop-drop}
 use Rattle.sheet.specs.declared.states.State.{State}
-use Rattle.sheet.specs.States.{absent, Each, IsWide}
+use Rattle.sheet.specs.States.{arrow_number, absent, Each, IsWide, Good}
 use Rattle.sheet.specs.Tables.{Table, Lawful, most_letters}
 use Rattle.sheet.specs.Files.{four_bytes, entry_bytes, entry_size, file_of, read_file, written, overwritten}
 use Rattle.sheet.specs.Views.{entry_in, table_of}
@@ -14,27 +15,39 @@ use Rattle.sheet.specs.declared.Sheet.{Sheet}
 use Rattle.sheet.specs.declared.refusals.SheetRefusal.TheVariants.{Buffer}
 use Rattle.sheet.proofs.Places.{count_is}
 use Rattle.sheet.proofs.Files.{length_entries, written_read}
-use Rattle.sheet.proofs.Goods.{sheet_lawful}
+use Rattle.sheet.proofs.Goods.{sheet_good, sheet_lawful}
 use Rattle.std.proofs.lemmas.Bool.{le-leb, lt-leb, cond-true, cond-false}
 
 pub byte_of : (b : Bool) → bool_byte b ≡ cond b 1 0
 byte_of true = refl
 byte_of false = refl
 
--- only the front that is written matters
-pasted_front : (d s : List ℕ) (at n : ℕ) → paste d at s n ≡ paste d at (take n s) n
-pasted_front d s at n = ap (λ (xs : List ℕ). take at d ++ xs ++ drop (at + n) d) (sym (take-take n n s (omega arith)))
+-- ---- one state
+
+set_front : (xs d : List ℕ) (a : ℕ) → a < length xs → a < length d → set (take a xs ++ drop a d) a (get_or xs a 0) ≡ take (suc a) xs ++ drop (suc a) d
+set_front [] d a h g = absurd (omega arith)
+set_front (x ∷ xs) [] a h g = absurd (omega arith)
+set_front (x ∷ xs) (y ∷ d) zero h g = refl
+set_front (x ∷ xs) (y ∷ d) (suc a) h g = ap (λ (zs : List ℕ). x ∷ zs) (set_front xs d a (omega arith) (omega arith))
+
+-- one arrow more is written
+pub arrow_written : (xs d : List ℕ) (a x : ℕ) → a < length xs → a < length d → x ≡ get_or xs a 0 → set (take a xs ++ drop a d) a x ≡ take (a + 1) xs ++ drop (a + 1) d
+arrow_written xs d a x h g e = rw (e, add-one a) (set_front xs d a h g)
 
 -- the marks, the prefix mark and the arrows, one after the other, are the state
 pub state_written :
-    (d : List ℕ) (at letters : ℕ) (s : State)
-    → at ≤ length d → letters ≤ length s.arrows
-    → paste (paste (paste d at (four_bytes s.marks) 4) (at + 4) (cond s.prefix 1 0 ∷ []) 1) (at + 5) s.arrows letters
-    ≡ paste d at (entry_bytes (entry_in letters s)) (entry_size letters)
-state_written d at letters s h w =
-    ap (λ (b : List ℕ). paste b (at + 5) s.arrows letters) (paste-paste d at (four_bytes s.marks) (cond s.prefix 1 0 ∷ []) 4 1 refl refl h)
-    ∙ pasted_front (paste d at (four_bytes s.marks ++ cond s.prefix 1 0 ∷ []) 5) s.arrows (at + 5) letters
-    ∙ paste-paste d at (four_bytes s.marks ++ cond s.prefix 1 0 ∷ []) (take letters s.arrows) 5 letters refl (sym (length-take-le letters s.arrows w)) h
+    (front part arrows : List ℕ) (n p q k : ℕ)
+    → front ≡ four_bytes n → p ≡ q → 5 ≤ length part → length part ≤ 5 + k
+    → put_mid 5 k (set (front ++ drop 4 part) 4 p) arrows ≡ four_bytes n ++ q ∷ arrows
+state_written front (t ∷ u ∷ v ∷ w ∷ x ∷ rest) arrows n p q k e f h l =
+    ap (λ (xs : List ℕ). put_mid 5 k (set (xs ++ x ∷ rest) 4 p) arrows) e
+    ∙ ap (λ (ys : List ℕ). four_bytes n ++ p ∷ ys) (ap (λ (zs : List ℕ). arrows ++ zs) (drop_all k rest (omega arith)) ∙ append-nil arrows)
+    ∙ ap (λ (z : ℕ). four_bytes n ++ z ∷ arrows) f
+state_written front [] arrows n p q k e f h l = absurd (omega arith)
+state_written front (t ∷ []) arrows n p q k e f h l = absurd (omega arith)
+state_written front (t ∷ u ∷ []) arrows n p q k e f h l = absurd (omega arith)
+state_written front (t ∷ u ∷ v ∷ []) arrows n p q k e f h l = absurd (omega arith)
+state_written front (t ∷ u ∷ v ∷ w ∷ []) arrows n p q k e f h l = absurd (omega arith)
 
 -- ---- all states
 
@@ -49,8 +62,8 @@ module _ (letters : ℕ) (items : List State) where
       ∙ ap (flat_map entry_bytes) (sym (ap (map (entry_in letters)) (take_more items i s h) ∙ map_push (entry_in letters) (take i items) (get_or items i s) ∙ ap (λ (x : State). map (entry_in letters) (take i items) ++ entry_in letters x ∷ []) (sym e)))
 
   module _ (wide : Each IsWide items) (few : letters ≤ most_letters) where
-    length_one : (s : State) → IsWide s → length (entry_bytes (entry_in letters s)) ≡ entry_size letters
-    length_one s w = let e : length (take letters s.arrows) ≡ letters = length-take-le letters s.arrows (omega arith) in omega arith
+    pub length_one : (s : State) → IsWide s → length (entry_bytes (entry_in letters s)) ≡ entry_size letters
+    length_one s w = let e : length (take letters (map arrow_number s.arrows)) ≡ letters = length-take-le letters (map arrow_number s.arrows) (simp length-map (omega arith)) in omega arith
 
     pub length_front : (i : ℕ) → i ≤ length items → length (front i) ≡ i * entry_size letters
     length_front zero h = sym (zero-mul (entry_size letters))
@@ -64,21 +77,42 @@ module _ (letters : ℕ) (items : List State) where
 
     -- one state more is written
     pub written_more :
-        (d b : List ℕ) (i : ℕ) (s : State) → 4 ≤ length d → i < length items → s ≡ get_or items i s
-        → b ≡ paste d 4 (front i) (i * entry_size letters)
-        → paste b (4 + i * entry_size letters) (entry_bytes (entry_in letters s)) (entry_size letters) ≡ paste d 4 (front (i + 1)) ((i + 1) * entry_size letters)
-    written_more d b i s h l e so_far =
+        (d b : List ℕ) (i : ℕ) (s : State) → i < length items → s ≡ get_or items i s
+        → b ≡ paste d 0 (front i) (i * entry_size letters)
+        → paste b (i * entry_size letters) (entry_bytes (entry_in letters s)) (entry_size letters) ≡ paste d 0 (front (i + 1)) ((i + 1) * entry_size letters)
+    written_more d b i s l e so_far =
         let m : i * entry_size letters + entry_size letters ≡ (i + 1) * entry_size letters = sym (ap (λ (k : ℕ). k * entry_size letters) (add-one i) ∙ suc-mul i (entry_size letters)) in
         let w : IsWide s = subst IsWide (sym (e ∙ get_or_default items i s absent l)) (wide i) in
-        ap (λ (x : List ℕ). paste x (4 + i * entry_size letters) (entry_bytes (entry_in letters s)) (entry_size letters)) so_far
-        ∙ paste-paste d 4 (front i) (entry_bytes (entry_in letters s)) (i * entry_size letters) (entry_size letters) (sym (length_front i (omega arith))) (sym (length_one s w)) h
-        ∙ ap (λ (xs : List ℕ). paste d 4 xs (i * entry_size letters + entry_size letters)) (front_more i s l e)
-        ∙ ap (paste d 4 (front (i + 1))) m
+        let z : i * entry_size letters ≡ 0 + i * entry_size letters = sym (zero-add (i * entry_size letters)) in
+        ap (λ (x : List ℕ). paste x (i * entry_size letters) (entry_bytes (entry_in letters s)) (entry_size letters)) so_far
+        ∙ ap (λ (at : ℕ). paste (paste d 0 (front i) (i * entry_size letters)) at (entry_bytes (entry_in letters s)) (entry_size letters)) z
+        ∙ paste-paste d 0 (front i) (entry_bytes (entry_in letters s)) (i * entry_size letters) (entry_size letters) (sym (length_front i (omega arith))) (sym (length_one s w)) (omega arith)
+        ∙ ap (λ (xs : List ℕ). paste d 0 xs (i * entry_size letters + entry_size letters)) (front_more i s l e)
+        ∙ ap (paste d 0 (front (i + 1))) m
+
+module _ (sheet : Sheet) where
+  -- a state that the loop comes to
+  pub state_there : (xs : List State) (i : ℕ) (d : State) → xs ≡ vec_items sheet.states → i < length xs → Good sheet.letters (vec_len sheet.states) (get_or xs i d)
+  state_there xs i d e h =
+      subst (Good sheet.letters (vec_len sheet.states)) (ap (λ (ys : List State). get_or ys i absent) (sym e) ∙ get_or_default xs i absent d h) (sheet_good sheet i)
+
+  pub states_written :
+      (d b : List ℕ) (i : ℕ) → length d ≡ vec_len sheet.states * entry_size sheet.letters → i ≡ vec_len sheet.states
+      → b ≡ paste d 0 (front sheet.letters (vec_items sheet.states) i) (i * entry_size sheet.letters)
+      → b ≡ flat_map entry_bytes (table_of sheet).states
+  states_written d b i l e g =
+      let items = vec_items sheet.states in
+      let n : i ≡ length items = e ∙ sheet.states.ok.0 in
+      let file = front sheet.letters items i in
+      let long : i * entry_size sheet.letters ≡ length file = sym (length_front sheet.letters items sheet.wide sheet.few i (omega arith)) in
+      let end : length d ≡ i * entry_size sheet.letters = l ∙ ap (λ (k : ℕ). k * entry_size sheet.letters) (sym e) in
+      g
+      ∙ paste_all d 0 file (i * entry_size sheet.letters) long
+      ∙ ap (λ (xs : List ℕ). file ++ xs) (drop_all (0 + i * entry_size sheet.letters) d (omega arith))
+      ∙ append-nil file
+      ∙ ap (λ (xs : List State). flat_map entry_bytes (map (entry_in sheet.letters) xs)) (take_all i items (omega arith))
 
 -- ---- the file
-
-pasted_file : (d file : List ℕ) (n : ℕ) → n ≡ length file → paste d 0 file n ≡ file ++ drop (length file) d
-pasted_file d file n e = paste_all d 0 file n e ∙ ap (λ (k : ℕ). file ++ drop k d) (zero-add n ∙ e)
 
 module _ (sheet : Sheet) where
   pub file_long : length (file_of (table_of sheet)) ≡ 4 + vec_len sheet.states * entry_size sheet.letters
@@ -90,25 +124,17 @@ module _ (sheet : Sheet) where
 
   -- the head and all states are the file
   pub file_written :
-      (d h b : List ℕ) (count : ℕ) → count ≡ vec_len sheet.states
-      → h ≡ paste d 0 (count ∷ sheet.letters ∷ sheet.shortest ∷ 1 ∷ []) 4
-      → b ≡ paste h 4 (front sheet.letters (vec_items sheet.states) count) (count * entry_size sheet.letters)
-      → b ≡ file_of (table_of sheet) ++ drop (length (file_of (table_of sheet))) d
+      (d h body : List ℕ) (count k : ℕ) → count ≡ vec_len sheet.states
+      → h ≡ count ∷ sheet.letters ∷ sheet.shortest ∷ 1 ∷ []
+      → body ≡ flat_map entry_bytes (table_of sheet).states
+      → 4 + k ≡ length (file_of (table_of sheet))
+      → put_mid 4 k (h ++ drop 4 d) body ≡ file_of (table_of sheet) ++ drop (length (file_of (table_of sheet))) d
   unfolding file_of
-  file_written d h b count e f g =
-      let items = vec_items sheet.states in
-      let size : ℕ = entry_size sheet.letters in
-      let n : count ≡ length items = e ∙ sheet.states.ok.0 in
-      let l : length (front sheet.letters items count) ≡ count * size = length_front sheet.letters items sheet.wide sheet.few count (omega arith) in
-      let whole : front sheet.letters items count ≡ flat_map entry_bytes (table_of sheet).states = ap (λ (xs : List State). flat_map entry_bytes (map (entry_in sheet.letters) xs)) (take_all count items (omega arith)) in
-      let file = file_of (table_of sheet) in
-      let long : 4 + count * size ≡ length file = ap (λ (k : ℕ). 4 + k * size) e ∙ sym file_long in
-      g
-      ∙ ap (λ (x : List ℕ). paste x 4 (front sheet.letters items count) (count * size)) f
-      ∙ paste-paste d 0 (count ∷ sheet.letters ∷ sheet.shortest ∷ 1 ∷ []) (front sheet.letters items count) 4 (count * size) refl (sym l) (omega arith)
-      ∙ ap (λ (xs : List ℕ). paste d 0 (count ∷ sheet.letters ∷ sheet.shortest ∷ 1 ∷ xs) (4 + count * size)) whole
-      ∙ ap (λ (k : ℕ). paste d 0 (k ∷ sheet.letters ∷ sheet.shortest ∷ 1 ∷ flat_map entry_bytes (table_of sheet).states) (4 + count * size)) (e ∙ sym (count_is sheet))
-      ∙ pasted_file d file (4 + count * size) long
+  file_written d h body count k e f g l =
+      ap (λ (xs : List ℕ). put_mid 4 k (xs ++ drop 4 d) body) f
+      ∙ ap (λ (xs : List ℕ). count ∷ sheet.letters ∷ sheet.shortest ∷ 1 ∷ (xs ++ drop k (drop 4 d))) g
+      ∙ ap (λ (n : ℕ). n ∷ sheet.letters ∷ sheet.shortest ∷ 1 ∷ (flat_map entry_bytes (table_of sheet).states ++ drop k (drop 4 d))) (e ∙ sym (count_is sheet))
+      ∙ ap (λ (xs : List ℕ). file_of (table_of sheet) ++ xs) (drop-drop k 4 d ∙ ap (λ (n : ℕ). drop n d) l)
 
 -- ---- the answers
 

@@ -2,7 +2,7 @@
 --   file_of     the bytes of a table's file
 --   read_file   the table of a file, or the first question that is answered by no
 use Rattle.std.specs.Prelude.{◌≡◌, ℕ, zero, suc, ◌+◌, ◌*◌, ◌/◌, ◌%◌, ◌<◌, Bool, true, false, cond, ◌&&◌, ◌↔◌, List, [], ◌∷◌, ◌++◌, map, length, take, drop, Ok, Err, Result, ◌==◌, nat_le, slice_index}
-use Rattle.std.specs.List.{flat_map, AllByRecursion}
+use Rattle.std.specs.List.{flat_map, list_all, AllByRecursion}
 use Rattle.sheet.specs.declared.refusals.SheetRefusal.{SheetRefusal}
 use Rattle.sheet.specs.declared.refusals.SheetRefusal.TheVariants.{Head, Edition, Counts, Length, Content, Buffer}
 use Rattle.sheet.specs.Tables.{Entry, Table, Lawful, most_letters}
@@ -46,17 +46,15 @@ cut size zero bytes = []
 cut size (suc n) bytes = take size bytes ∷ cut size n (drop size bytes)
 
 -- no byte is above the bound
-unfoldable pub up_to : ℕ → List ℕ → Bool
-up_to most [] = true
-up_to most (b ∷ bytes) = nat_le b most && up_to most bytes
+abbrev pub up_to : ℕ → List ℕ → Bool
+up_to most bytes = list_all (λ b. nat_le b most) bytes
 
 -- the prefix mark is 0 or 1, and every arrow is at most the number of states
 abbrev pub sound_entry : ℕ → List ℕ → Bool
 sound_entry states part = nat_le (slice_index part 4) 1 && up_to states (drop 5 part)
 
-unfoldable pub sound : ℕ → List (List ℕ) → Bool
-sound states [] = true
-sound states (part ∷ parts) = sound_entry states part && sound states parts
+abbrev pub sound : ℕ → List (List ℕ) → Bool
+sound states parts = list_all (sound_entry states) parts
 
 -- the state that a part of the file writes
 abbrev pub entry_of : List ℕ → Entry

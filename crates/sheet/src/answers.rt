@@ -1,8 +1,9 @@
 //! What a sheet answers about its states.
-ghost use Rattle.std.specs.Prelude.{◌≡◌, length};
-ghost use Rattle.sheet.specs.Views.{table_of, automaton_of};
+ghost use Rattle.std.specs.Prelude.{◌≡◌, length, option_copied};
+ghost use Rattle.sheet.specs.Views.{table_of, state_at, automaton_of};
 
-use crate::{MOST_LETTERS, Sheet, StateNumber};
+use crate::states::State;
+use crate::{Sheet, StateNumber};
 
 impl Sheet {
     /// The number of letters.
@@ -20,42 +21,42 @@ impl Sheet {
     }
 
     /// The number of states.
+    #[tactic(auto, using(crate::proofs::Places::count_is))]
     pub fn states(&self) -> usize
         ensures answer { result ≡ length (table_of self.now).states }
     {
         self.states.len()
     }
 
+    /// The state of this number, if it exists.
+    fn state(&self, state: StateNumber) -> Option<&State>
+        ensures answer { option_copied result ≡ state_at self.now state }
+    {
+        // For 0 the place wraps round, past all states: one comparison finds out about both ends.
+        self.states.get(state.wrapping_sub(1) as usize)
+    }
+
     /// The state that the letter leads to from a state, if it has an arrow there.
+    #[tactic(auto, using(crate::proofs::Entries::arrow_past))]
     pub fn follow(&self, state: StateNumber, letter: u8) -> Option<StateNumber>
         ensures answer { result ≡ (automaton_of self.now).arrow state letter }
     {
-        let place = state.wrapping_sub(1) as usize;
-        let letter = letter as usize;
-        if place >= self.states.len() || letter >= MOST_LETTERS {
-            return None;
-        }
-        let to = self.states[place].arrows[letter];
-        if to == 0 { None } else { Some(to) }
+        *self.state(state)?.arrows.get(letter as usize)?
     }
 
     /// The marks of a state, none where it does not exist.
+    #[tactic(auto, using(crate::proofs::Entries::entry_is))]
     pub fn marks(&self, state: StateNumber) -> u32
         ensures answer { result ≡ (automaton_of self.now).marks state }
     {
-        let place = state.wrapping_sub(1) as usize;
-        if place < self.states.len() {
-            self.states[place].marks
-        } else {
-            0
-        }
+        self.state(state).map_or(0, |s| s.marks)
     }
 
     /// Whether a state has the prefix mark.
+    #[tactic(auto, using(crate::proofs::Entries::entry_is))]
     pub fn is_prefix(&self, state: StateNumber) -> bool
         ensures answer { result ≡ (automaton_of self.now).prefix state }
     {
-        let place = state.wrapping_sub(1) as usize;
-        place < self.states.len() && self.states[place].prefix
+        self.state(state).is_some_and(|s| s.prefix)
     }
 }

@@ -1,5 +1,5 @@
 //! Sheets are made state by state and arrow by arrow.
-ghost use Rattle.std.specs.Prelude.{◌≡◌, replicate, if◌then◌else◌, Ok};
+ghost use Rattle.std.specs.Prelude.{◌≡◌, replicate, if◌then◌else◌, None, Ok};
 ghost use Rattle.sheet.specs.Views.{table_of, Gives, Grows};
 ghost use Rattle.sheet.specs.Tables.{single as single_table, has_state, has_places, redirected, most_letters};
 ghost use Rattle.sheet.specs.Files.{ask, is_counted};
@@ -11,12 +11,12 @@ use std::alloc::Global;
 
 /// A state without arrows.
 fn plain(marks: u32, prefix: bool) -> State
-    ensures answer { result ≡ record { marks = marks; prefix = prefix; arrows = replicate most_letters 0 } }
+    ensures answer { result ≡ record { marks = marks; prefix = prefix; arrows = replicate most_letters None } }
 {
     State {
         marks,
         prefix,
-        arrows: [0; MOST_LETTERS],
+        arrows: [None; MOST_LETTERS],
     }
 }
 
@@ -51,10 +51,8 @@ impl Sheet {
         if self.states.len() == MOST_STATES {
             return Err(GrowthError::Full);
         }
-        match self.states.push(plain(marks, prefix)) {
-            Ok(()) => Ok(self.states.len() as StateNumber),
-            Err(_) => Err(GrowthError::NoMemory),
-        }
+        self.states.push(plain(marks, prefix))?;
+        Ok(self.states.len() as StateNumber)
     }
 
     /// Whether both states and the letter exist.
@@ -62,13 +60,7 @@ impl Sheet {
         ensures answer { result ≡ has_places (table_of self.now) from letter to }
     {
         let count = self.states.len();
-        if !is_state(count, from) {
-            return false;
-        }
-        if !is_state(count, to) {
-            return false;
-        }
-        letter < self.letters
+        is_state(count, from) && is_state(count, to) && letter < self.letters
     }
 
     /// Lets the arrow of a state by a letter lead to a state; answers whether both states and the letter exist, and does nothing otherwise.
@@ -79,10 +71,7 @@ impl Sheet {
         if !self.has_places(from, letter, to) {
             return false;
         }
-        let place = from as usize - 1;
-        let mut state = self.states[place];
-        state.arrows[letter as usize] = to;
-        self.states[place] = state;
+        self.states[from as usize - 1].arrows[letter as usize] = Some(to);
         true
     }
 }

@@ -7,12 +7,13 @@ ghost use Rattle.sheet.specs.States.{Each, HasMarks, IsWide, IsInside, IsBare};
 
 mod answers;
 mod building;
+mod layout;
 mod reading;
 pub mod refusals;
 mod states;
 mod writing;
 
-pub use refusals::{GrowthError, SheetError, SheetRefusal};
+pub use refusals::{GrowthError, SheetError, SheetRefusal, Unmade};
 use states::State;
 pub use states::{MOST_LETTERS, MOST_STATES, START, StateNumber};
 

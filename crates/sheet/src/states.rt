@@ -1,6 +1,6 @@
 //! One state of a sheet, and the limits of sheets.
 
-/// The number of a state, from 1 on; 0 stands for no state.
+/// The number of a state, from 1 on.
 pub type StateNumber = u16;
 
 /// The number of the state in which every reading starts.
@@ -13,12 +13,12 @@ pub const MOST_STATES: usize = 255;
 pub const MOST_LETTERS: usize = 32;
 
 /// A state of the automaton. It has room for an arrow by every letter of the largest alphabet, so that following one takes one look.
-#[derive(Clone, Copy)]
+#[derive(Clone, Copy, Debug, PartialEq, Eq)]
 pub(crate) struct State {
     /// Bit j is set where the words that lead here are images of pattern j.
     pub marks: u32,
     /// Whether the words that lead here are proper prefixes of images.
     pub prefix: bool,
-    /// The state that each letter leads to; 0 is none.
-    pub arrows: [StateNumber; MOST_LETTERS],
+    /// The state that each letter leads to, if there is an arrow.
+    pub arrows: [Option<StateNumber>; MOST_LETTERS],
 }

@@ -1,20 +1,27 @@
-use Rattle.std.proofs.Common.{sym, ap, ◌∙◌, arith}
-use Rattle.sheet.specs.Tables.{arrow_of}
-use Rattle.sheet.proofs.Entries.{some_state, arrow_there, arrow_past, arrow_beyond}
+use Rattle.std.proofs.Common.{◌≡◌, ◌≤◌, Some, None, length, sym, ap, ◌∙◌}
+use Rattle.std.specs.Option.{option_copied}
+use Rattle.std.proofs.lemmas.List.{get_or_default, get_or_past}
+use Rattle.std.proofs.lemmas.Bool.{ltb-true, ltb-false}
+use Rattle.sheet.specs.Views.{state_at}
+use Rattle.sheet.proofs.Entries.{arrow_there}
 use Rattle.sheet.proofs.Sheet.follow.Goals as goal
-use Rattle.sheet.proofs.Sheet.follow.Goals.{then-place-len-via-then-place-len, then-place-len-via-else-place-len+then-letter-ge-MOST_LETTERS}
+use Rattle.sheet.proofs.Sheet.follow.Goals.{In_ok-state}
 
-pub returns-then-place-len : goal.returns-then-place-len
-returns-then-place-len c =
-    elim c.then-place-len.branch [
-      | then-place-len-via-then-place-len w ↦ record { answer = arrow_past c.args.self.now c.args.state c.args.letter (omega arith) (omega (arith, w.if-place-len.true)) }
-      | then-place-len-via-else-place-len+then-letter-ge-MOST_LETTERS w ↦ record { answer = arrow_beyond c.args.self.now c.args.state c.args.letter (omega arith) (omega (arith, w.if-letter-ge-MOST_LETTERS.true)) }
-    ]
+there : (c : In_ok-state) → state_at c.args.self.now c.args.state ≡ Some c.in_ok-state.field-0.now
+there c = sym c.state.ensures.answer ∙ ap option_copied c.in_ok-state.was
 
-pub returns-then-to-eq0 : goal.returns-then-to-eq0
-returns-then-to-eq0 c =
-    record { answer = sym (arrow_there c.args.self.now c.args.state c.args.letter c.index.result.now (omega arith) (omega arith) c.index.ensures ∙ ap arrow_of c.if-to-eq0.true) }
+pub returns-in_err-get : goal.returns-in_err-get
+returns-in_err-get c =
+    let s = c.in_ok-state.field-0.now in
+    let e = arrow_there c.args.self.now c.args.state c.args.letter s (there (goal.at.returns-in_err-get c).In_ok-state) in
+    let past : length s.arrows ≤ c.args.letter = ltb-false _ _ (sym c.in_err-get.ensures.lookup.0) in
+    let none = get_or_past s.arrows c.args.letter None past in
+    record { answer = cc }
 
-pub returns-else-to-eq0 : goal.returns-else-to-eq0
-returns-else-to-eq0 c =
-    record { answer = some_state _ c.if-to-eq0.false ∙ sym (arrow_there c.args.self.now c.args.state c.args.letter c.index.result.now (omega arith) (omega arith) c.index.ensures) }
+pub returns : goal.returns
+returns c =
+    let s = c.in_ok-state.field-0.now in
+    let e = arrow_there c.args.self.now c.args.state c.args.letter s (there (goal.at.returns c).In_ok-state) in
+    let look = c.in_ok-get.ensures.lookup in
+    let it = get_or_default s.arrows c.args.letter c.in_ok-get.field-0.now None (ltb-true _ _ (sym look.0)) in
+    record { answer = look.1 ∙ it ∙ sym e }

@@ -3,11 +3,6 @@ use Rattle.sheet.proofs.Goods.{sheet_good, good_set, turned_is}
 use Rattle.sheet.proofs.Places.{exist}
 use Rattle.sheet.proofs.Sheet.set_arrow.Goals as goal
 
-pub index-requires : goal.index-requires
-index-requires c =
-    let e = exist c.args.self.now c.args.from c.args.letter c.args.to c.if-not-has_places.ensures.answer in
-    omega arith
-
 pub index_mut-requires : goal.index_mut-requires
 index_mut-requires c =
     let e = exist c.args.self.now c.args.from c.args.letter c.args.to c.if-not-has_places.ensures.answer in
@@ -18,11 +13,12 @@ invariant_of-self c =
     let sheet = c.args.self.now in
     let e = exist sheet c.args.from c.args.letter c.args.to c.if-not-has_places.ensures.answer in
     let g =
-    good_set sheet.letters (vec_len sheet.states) (vec_items sheet.states) (c.args.from - 1) c.index.result.now c.args.letter c.args.to
+    good_set sheet.letters (vec_len sheet.states) (vec_items sheet.states) (c.args.from - 1) c.index_mut.result.now c.args.letter c.args.to
     (omega (arith, sheet.states.ok.0))
-    c.index.ensures
+    c.index_mut.ensures.value
     e.letter_in_lem
     sheet.few
+    e.to_some
     e.to_in
     (sheet_good sheet)
     in
@@ -44,8 +40,8 @@ returns c =
     record {
       answer = c.if-not-has_places.ensures.answer;
       held =
-          turned_is sheet.letters sheet.shortest c.args.from (c.args.from - 1) (vec_items sheet.states) c.index.result.now c.args.letter c.args.to
+          turned_is sheet.letters sheet.shortest c.args.from (c.args.from - 1) (vec_items sheet.states) c.index_mut.result.now c.args.letter c.args.to
           (omega arith)
           (omega (arith, sheet.states.ok.0))
-          c.index.ensures;
+          c.index_mut.ensures.value;
     }

@@ -1,11 +1,12 @@
-use Rattle.std.proofs.Common.{ℕ, ◌+◌, List, get_or, set, ap, ◌∙◌, arith}
-use Rattle.std.proofs.lemmas.List.Edits.{paste_none, paste_more}
+use Rattle.std.proofs.Common.{◌≡◌, map, get_or, sym, ◌∙◌, arith}
+use Rattle.std.proofs.lemmas.List.{length-map}
+use Rattle.sheet.specs.States.{arrow_number}
+use Rattle.sheet.proofs.Goods.{number_at}
+use Rattle.sheet.proofs.Writes.{arrow_written}
 use Rattle.sheet.proofs.writing.put_arrows.Goals as goal
-
-pub loop-a-init : goal.loop-a-init
-loop-a-init c = paste_none c.args.buffer.now c.args.at c.args.arrows.now
 
 pub loop-a-preserved : goal.loop-a-preserved
 loop-a-preserved c =
-    ap (λ (b : List ℕ). set b (c.args.at + c.loop-a.a) (get_or c.args.arrows.now c.loop-a.a 0)) c.loop-a.invariant
-    ∙ paste_more c.args.buffer.now c.args.at c.args.arrows.now c.loop-a.a 0 (omega arith) (omega arith)
+    let xs = map arrow_number c.args.arrows.now in
+    let e : c.byte_of.result ≡ get_or xs c.loop-a.a 0 = c.byte_of.ensures ∙ sym (number_at c.args.arrows.now c.loop-a.a) in
+    rw c.loop-a.invariant (arrow_written xs c.args.bytes.now c.loop-a.a c.byte_of.result (simp length-map (omega arith)) (omega arith) e)

@@ -1,19 +1,24 @@
-use Rattle.std.proofs.Common.{ℕ, ◌+◌, cond, List, [], ◌∷◌, length, ap, ◌∙◌, arith}
-use lib.Seq.{paste}
+use Rattle.std.proofs.Common.{◌≡◌, ℕ, cond, List, ◌∷◌, ◌++◌, length, map, take, ap, ◌∙◌, arith}
+use Rattle.std.proofs.lemmas.List.{length-append, length-drop, length-take, length-set}
+use Rattle.sheet.specs.States.{arrow_number}
+use Rattle.sheet.specs.Files.{four_bytes}
 use Rattle.sheet.proofs.Writes.{byte_of, state_written}
 use Rattle.sheet.proofs.writing.put_state.Goals as goal
 
 pub returns : goal.returns
 returns c =
-    let d = c.args.buffer.now in
-    let at = c.args.at in
     let s = c.args.state.now in
+    let front : c.copy_from_slice.new.self ≡ four_bytes s.marks = c.copy_from_slice.ensures.after ∙ c.to_be_bytes.ensures in
+    let four : length c.copy_from_slice.new.self ≡ 4 = ap length front in
+    let long = c.requires.long in
     record {
       after =
-          c.put_arrows.ensures.after
-          ∙ ap (λ (b : List ℕ). paste b (at + 5) s.arrows c.args.letters)
-          (c.put-2.ensures.after
-          ∙ ap (λ (n : ℕ). paste c.put.new.buffer (at + 4) (n ∷ []) 1) (c.from.ensures ∙ byte_of s.prefix)
-          ∙ ap (λ (b : List ℕ). paste b (at + 4) (cond s.prefix 1 0 ∷ []) 1) (c.put.ensures.after ∙ ap (λ (xs : List ℕ). paste d at xs (length xs)) c.to_be_bytes.ensures))
-          ∙ state_written d at c.args.letters s (omega arith) c.requires.wide;
+          state_written c.copy_from_slice.new.self c.args.part.now c.put_arrows.new.bytes s.marks c.from.result (cond s.prefix 1 0) _
+          front
+          (c.from.ensures ∙ byte_of s.prefix)
+          (omega arith)
+          (simp (length-set, length-append, length-drop) (omega arith))
+          ∙ ap (λ (ys : List ℕ). four_bytes s.marks ++ cond s.prefix 1 0 ∷ ys)
+          (c.put_arrows.ensures.after
+          ∙ ap (λ (n : ℕ). take n (map arrow_number s.arrows)) (simp (length-take, length-drop, length-set, length-append) (omega arith)));
     }
