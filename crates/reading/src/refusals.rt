@@ -1,16 +1,25 @@
 //! Why a plan and a sheet are not admitted.
 ghost use Rattle.std.specs.Prelude.{◌≡◌};
 ghost use Rattle.reading.specs.Admission.{number_of};
+ghost use Rattle.reading.specs.declared.refusals.AdmitRefusal.TheVariants.{Sheet as AboutSheet};
 
 use judge::JudgeRefusal;
 
 /// The question about a plan and a sheet that was answered by no.
-#[derive(Clone, Copy)]
+#[derive(Clone, Copy, Debug, PartialEq, Eq)]
 pub enum AdmitRefusal {
     /// Has the plan the trace's letters?
     Alphabet,
     /// A question about the sheet, for the plan.
     Sheet(JudgeRefusal),
+}
+
+impl From<JudgeRefusal> for AdmitRefusal {
+    ghost from_gives = { λ e r. r ≡ AboutSheet e };
+
+    fn from(refusal: JudgeRefusal) -> AdmitRefusal {
+        AdmitRefusal::Sheet(refusal)
+    }
 }
 
 impl AdmitRefusal {

@@ -28,13 +28,9 @@ impl<T: Trace> Reading<T> {
             let _guard = Scratch { words: memory };
             return Err(AdmitRefusal::Alphabet);
         }
-        match judge(&plan, &sheet, memory, word) {
-            Ok(()) => {
-                self.plan = plan;
-                self.sheet = sheet;
-                Ok(())
-            }
-            Err(refusal) => Err(AdmitRefusal::Sheet(refusal)),
-        }
+        judge(&plan, &sheet, memory, word)?;
+        self.plan = plan;
+        self.sheet = sheet;
+        Ok(())
     }
 }
