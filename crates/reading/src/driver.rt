@@ -18,10 +18,9 @@ use std::alloc::{AllocError, Global};
 use trace::interface::Trace;
 
 // Draws in a memory that comes back.
-fn draw_with(heap: Global, plan: Plan, memory: Vec<u64>) -> (Result<Sheet, DrawError>, Vec<u64>)
+fn draw_with(heap: Global, plan: Plan, mut memory: Vec<u64>) -> (Result<Sheet, DrawError>, Vec<u64>)
     ensures drawn { Draws plan memory.items result.1.items result.0 }
 {
-    let mut memory = memory;
     let sheet = draw(heap, &plan, memory.as_mut_slice());
     (sheet, memory)
 }
@@ -31,15 +30,13 @@ fn admit_with<T: Trace>(
     reading: &mut Reading<T>,
     plan: Plan,
     sheet: Sheet,
-    memory: Vec<u64>,
-    word: Vec<u8>,
+    mut memory: Vec<u64>,
+    mut word: Vec<u8>,
 ) -> (Result<(), AdmitRefusal>, Vec<u64>, Vec<u8>)
     ensures answer { Admitted T.Trace.alphabet plan sheet memory.items word.items result.2.items result.0 }
     ensures wiped { Wiped memory.items result.1.items }
     ensures held { Replaced plan sheet reading.old reading.new result.0 }
 {
-    let mut memory = memory;
-    let mut word = word;
     let verdict = reading.admit(plan, sheet, memory.as_mut_slice(), word.as_mut_slice());
     (verdict, memory, word)
 }
@@ -179,6 +176,6 @@ pub fn perform<T: Trace + Drop>(
     ensures law { IfOk result (λ answers. Performed T.Trace.alphabet (T.Trace.row trace) calls.items answers.items) }
 {
     let session = Session::new(heap, trace)?;
-    let (_session, answers) = resume(heap, session, calls)?;
+    let (_, answers) = resume(heap, session, calls)?;
     Ok(answers)
 }

@@ -4,8 +4,7 @@ ghost use Rattle.pattern.specs.Patterns.{shortest, longest};
 ghost use Rattle.pattern.specs.Rows.{Hit as Place};
 ghost use Rattle.automaton.specs.Search.{start};
 ghost use Rattle.plan.specs.Views.{letters_of, patterns_of};
-ghost use Rattle.trace.specs.Cells.{cell_at};
-ghost use Rattle.reading.specs.Cells.{paired, inspected};
+ghost use Rattle.reading.specs.Cells.{inspected};
 ghost use Rattle.reading.specs.Spots.{conf_of};
 ghost use Rattle.reading.specs.Standing.{Standing, Fresh};
 
@@ -14,9 +13,8 @@ use crate::hits::Report;
 use crate::spot::first_spot;
 use crate::states::{Reading, Search};
 use plan::Plan;
-use sheet::Sheet;
+use sheet::{Sheet, SheetError};
 use std::alloc::{AllocError, Global};
-use trace::fault::Fault;
 use trace::interface::Trace;
 
 impl<T: Trace + Drop> Reading<T> {
@@ -25,32 +23,21 @@ impl<T: Trace + Drop> Reading<T> {
         ensures answer { Fresh T.Trace.alphabet trace result }
     {
         let letters = trace.letters();
-        let Ok(plan) = Plan::empty(letters) else {
-            unreachable()
-        };
+        let plan = Plan::empty(letters).unwrap();
         match Sheet::single(heap, letters, 0) {
             Ok(sheet) => Ok(Reading { trace, plan, sheet }),
-            Err(_) => Err(AllocError),
+            Err(SheetError::NoMemory) => Err(AllocError),
+            Err(SheetError::Refused(_)) => unreachable(),
         }
     }
 }
 
 impl<T: Trace> Reading<T> {
-    // The trace's answer, with the number of the cell beside its fault.
-    fn look(&self, i: usize) -> Result<u8, (usize, Fault<T::Damage>)>
-        ensures answer { result ≡ paired i (cell_at (T.Trace.row self.now.trace) i) }
-    {
-        match self.trace.cell(i) {
-            Ok(letter) => Ok(letter),
-            Err(fault) => Err((i, fault)),
-        }
-    }
-
     /// The letter of cell `i`, or the trace's fault together with the cell.
     pub fn inspect(&self, i: usize) -> Result<u8, CellFault<T::Damage>>
         ensures answer { result ≡ inspected (T.Trace.row self.now.trace) i }
     {
-        let letter = self.look(i)?;
+        let letter = self.trace.cell(i).map_err(|fault| (i, fault))?;
         Ok(letter)
     }
 
