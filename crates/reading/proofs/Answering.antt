@@ -1,7 +1,8 @@
 -- A search that stands after some answers has answered the first hits of the full list, in order, and the end where they are all.
-use Rattle.std.proofs.Common.{◌≡◌, ℕ, suc, ◌+◌, ◌-◌, ◌*◌, ◌<◌, ◌≤◌, List, [], ◌∷◌, ◌++◌, length, Some, None, Option, Result, sym, refl, ap, ◌∙◌, arith}
+use Rattle.std.proofs.Common.{◌≡◌, ℕ, suc, ◌+◌, ◌-◌, ◌*◌, ◌<◌, ◌≤◌, List, [], ◌∷◌, ◌++◌, length, is_some, Some, None, Option, Result, sym, refl, ap, ◌∙◌, arith}
 use Rattle.std.proofs.lemmas.List.{append_assoc, length-append}
 use Rattle.std.specs.List.{slice_get}
+use Rattle.std.specs.Int.{from_bool}
 use Rattle.trace.specs.Cells.{Lawful}
 use Rattle.pattern.specs.Patterns.{shortest, longest}
 use Rattle.pattern.specs.Images.{images_of}
@@ -40,6 +41,11 @@ takes_first (Some h) hs hs' t = rw t
 nth_after : (hs rest : List Place) → slice_get (hs ++ rest) (length hs) ≡ slice_get rest 0
 nth_after [] rest = refl
 nth_after (h ∷ hs) rest = nth_after hs rest
+
+-- as the code counts
+pub counts_one : (r : Option Hit) → from_bool (is_some r) ≡ count_of r
+counts_one None = refl
+counts_one (Some h) = refl
 
 pub count_more : (answers : List (Option Place)) (r : Option Hit) → length (hits_in (placed r ∷ answers)) ≡ length (hits_in answers) + count_of r
 count_more answers None = omega arith

@@ -1,7 +1,8 @@
 -- Looking at one cell.
-use Rattle.std.proofs.Common.{◌≡◌, ℕ, zero, suc, ◌+◌, ◌-◌, ◌<◌, ◌≤◌, true, false, List, [], ◌∷◌, length, is_some, Some, None, Ok, Err, Option, Result, sym, refl, ap, add-one, arith}
+use Rattle.std.proofs.Common.{◌≡◌, ℕ, zero, suc, ◌+◌, ◌-◌, ◌<◌, ◌≤◌, true, false, List, [], ◌∷◌, length, Some, None, Ok, Err, Option, Result, sym, refl, ap, add-one, arith}
 use Rattle.std.proofs.lemmas.Bool.{le-leb, lt-leb}
 use Rattle.std.specs.List.{AllByRecursion}
+use Rattle.std.specs.Option.{option_or}
 use Rattle.trace.specs.declared.fault.Fault.{Fault}
 use Rattle.trace.specs.Cells.{cell_at, Below, Lawful}
 use Rattle.pattern.specs.Rows.{cell, Lettered}
@@ -57,16 +58,9 @@ module _ (row : List (Option ℕ)) (s : Spot) where
       go None = refl
       go (Some d) = refl
 
-  pub looked_first : s.o ≤ s.p → cell row (s.p - s.o) ≡ None → is_some s.damaged ≡ false → conf_of (fetched s (Some (s.p - s.o))) ≡ looked row (conf_of s)
-  looked_first h e f = looked_at (Some (s.p - s.o)) h (rw e (go s.damaged f))
+  pub looked_fault : s.o ≤ s.p → cell row (s.p - s.o) ≡ None → conf_of (fetched s (option_or s.damaged (Some (s.p - s.o)))) ≡ looked row (conf_of s)
+  looked_fault h e = looked_at (option_or s.damaged (Some (s.p - s.o))) h (rw e (go s.damaged))
     where
-      go : (d : Option ℕ) → is_some d ≡ false → Some (s.p - s.o) ≡ first_damaged d (s.p - s.o) None
-      go None e = refl
-      go (Some d) e = absurd (let z : ◌≡◌ {A = ℕ} 0 1 = cc in omega arith)
-
-  pub looked_again : s.o ≤ s.p → is_some s.damaged ≡ true → conf_of (fetched s s.damaged) ≡ looked row (conf_of s)
-  looked_again h f = looked_at s.damaged h (go s.damaged f)
-    where
-      go : (d : Option ℕ) → is_some d ≡ true → d ≡ first_damaged d (s.p - s.o) (cell row (s.p - s.o))
-      go None e = absurd (let z : ◌≡◌ {A = ℕ} 0 1 = cc in omega arith)
-      go (Some d) e = refl
+      go : (d : Option ℕ) → option_or d (Some (s.p - s.o)) ≡ first_damaged d (s.p - s.o) None
+      go None = refl
+      go (Some d) = refl

@@ -17,17 +17,19 @@ pub(crate) struct Spot {
     pub damaged: Option<usize>,
 }
 
-/// Where a search begins, for a plan of this shortest length.
-pub(crate) fn first_spot(least: u8) -> Spot
-    ensures answer { conf_of result ≡ start least }
-    ensures roomy { Roomy result }
-{
-    Spot {
-        p: least.saturating_sub(1) as usize,
-        o: 0,
-        q: START,
-        c: 0,
-        fetches: 0,
-        damaged: None,
+impl Spot {
+    /// Where a search begins, for a plan of this shortest length.
+    pub fn first(least: u8) -> Spot
+        ensures answer { conf_of result ≡ start least }
+        ensures roomy { Roomy result }
+    {
+        Spot {
+            p: least.saturating_sub(1) as usize,
+            o: 0,
+            q: START,
+            c: 0,
+            fetches: 0,
+            damaged: None,
+        }
     }
 }

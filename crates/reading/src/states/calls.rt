@@ -10,7 +10,7 @@ ghost use Rattle.reading.specs.Standing.{Standing, Fresh};
 
 use crate::cell_fault::CellFault;
 use crate::hits::Report;
-use crate::spot::first_spot;
+use crate::spot::Spot;
 use crate::states::{Reading, Search};
 use plan::Plan;
 use sheet::{Sheet, SheetError};
@@ -47,7 +47,7 @@ impl<T: Trace> Reading<T> {
         ensures answer { (conf_of result.at ≡ start (shortest (patterns_of self.plan))) × (result.hits ≡ 0) }
         ensures standing { letters_of self.plan ≡ T.Trace.alphabet → Standing T.Trace.alphabet (T.Trace.row self.trace) [] result }
     {
-        let at = first_spot(self.plan.shortest());
+        let at = Spot::first(self.plan.shortest());
         Search {
             reading: self,
             at,

@@ -10,7 +10,7 @@ ghost use Rattle.plan.specs.Views.{patterns_of};
 ghost use Rattle.sheet.specs.Views.{automaton_of};
 ghost use Rattle.reading.specs.Cells.{letters_in};
 ghost use Rattle.reading.specs.Hits.{placed, count_of};
-ghost use Rattle.reading.specs.Spots.{conf_of, looked, Roomy};
+ghost use Rattle.reading.specs.Spots.{conf_of, looked};
 ghost use Rattle.reading.specs.Standing.{Standing};
 
 use crate::hits::Hit;
@@ -22,8 +22,7 @@ use trace::interface::Trace;
 impl<T: Trace> Reading<T> {
     // Fetches the cell that comes next in reading back, unless the row's front was passed, and the state that it leads to.
     fn follow(&self, at: Spot) -> (Spot, Option<StateNumber>)
-        requires roomy { Roomy at }
-        requires inside { at.p < length (T.Trace.row self.now.trace) }
+        requires { at.fetches + 1 < 2 ^ 64 }
         ensures looked { conf_of result.0 ≡ looked (letters_in (T.Trace.row self.now.trace)) (conf_of at) }
         ensures answer { result.1 ≡ following (automaton_of self.now.sheet) (letters_in (T.Trace.row self.now.trace)) (conf_of at) }
     {
@@ -31,15 +30,15 @@ impl<T: Trace> Reading<T> {
             return (at, None);
         }
         let i = at.p - at.o;
-        let mut seen = at;
-        seen.fetches += 1;
+        let seen = Spot {
+            fetches: at.fetches + 1,
+            ..at
+        };
         match self.trace.cell(i) {
             Ok(letter) => (seen, self.sheet.follow(at.q, letter)),
             Err(_) => {
-                if seen.damaged.is_none() {
-                    seen.damaged = Some(i);
-                }
-                (seen, None)
+                let damaged = seen.damaged.or(Some(i));
+                (Spot { damaged, ..seen }, None)
             }
         }
     }
@@ -51,41 +50,24 @@ impl<T: Trace> Reading<T> {
     {
         let o = at.o + 1;
         let c = if self.sheet.is_prefix(q) { o } else { at.c };
+        Spot { o, q, c, ..at }
+    }
+}
+
+impl Spot {
+    // Past the places that the reading back has ruled out.
+    fn jump(self, least: u8) -> Spot
+        requires { self.p + 256 < 2 ^ 64 }
+        ensures answer { conf_of result ≡ jumped least (conf_of self) self.fetches self.damaged }
+    {
+        let by = (least as usize).saturating_sub(self.c).max(1);
         Spot {
-            p: at.p,
-            o,
-            q,
-            c,
-            fetches: at.fetches,
-            damaged: at.damaged,
+            p: self.p + by,
+            o: 0,
+            q: START,
+            c: 0,
+            ..self
         }
-    }
-}
-
-// Past the places that the reading back has ruled out.
-fn jump(at: Spot, least: u8) -> Spot
-    requires { at.p + 256 < 2 ^ 64 }
-    ensures answer { conf_of result ≡ jumped least (conf_of at) at.fetches at.damaged }
-{
-    let least = least as usize;
-    let by = if at.c < least { least - at.c } else { 1 };
-    Spot {
-        p: at.p + by,
-        o: 0,
-        q: START,
-        c: 0,
-        fetches: at.fetches,
-        damaged: at.damaged,
-    }
-}
-
-// How many hits an answer is.
-fn count_of(found: Option<Hit>) -> usize
-    ensures answer { result ≡ count_of found }
-{
-    match found {
-        None => 0,
-        Some(_) => 1,
     }
 }
 
@@ -110,7 +92,7 @@ impl<T: Trace> Search<T> {
                 let (seen, to) = self.reading.follow(at);
                 match to {
                     None => {
-                        at = jump(seen, least);
+                        at = seen.jump(least);
                         break;
                     }
                     Some(q) => {
@@ -129,7 +111,7 @@ impl<T: Trace> Search<T> {
             }
         }
         self.at = at;
-        self.hits += count_of(found);
+        self.hits += usize::from(found.is_some());
         found
     }
 }

@@ -6,5 +6,5 @@ use Rattle.reading.proofs.states.Reading.begin.Goals as goal
 
 pub returns : goal.returns
 returns g c =
-    let at = c.first_spot-at.ensures.answer ∙ ap start c.shortest.ensures.answer in
+    let at = c.first-at.ensures.answer ∙ ap start c.shortest.ensures.answer in
     record { held = refl; answer = (at, refl); standing = λ e. record { lettered = e; reached = reached_start _ _ _ _ at; counted = refl } }

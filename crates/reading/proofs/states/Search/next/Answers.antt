@@ -1,12 +1,14 @@
 -- `next`: each turn of the inner loop is a tick.
-use Rattle.std.proofs.Common.{None, sym, refl, ap, ◌∙◌, arith}
+use Rattle.std.proofs.Common.{◌≡◌, None, sym, refl, ap, ◌∙◌, arith}
+use Rattle.std.specs.Int.{from_bool}
 use Rattle.automaton.specs.Search.{Conf}
 use Rattle.sheet.specs.Views.{automaton_of}
 use Rattle.reading.specs.Cells.{letters_in}
+use Rattle.reading.specs.Hits.{count_of}
 use Rattle.reading.specs.Standing.{asked}
 use Rattle.reading.proofs.Looking.{length_letters}
 use Rattle.reading.proofs.Onwards.{onward_here, onward_trans, turn, Went, jump_went, step_room, step_went, step_found, Leaves, next_none, leaves_end, leaves_found, next_by}
-use Rattle.reading.proofs.Answering.{hit_is, count_more}
+use Rattle.reading.proofs.Answering.{hit_is, counts_one, count_more}
 use Rattle.reading.proofs.states.Search.next.Given as given
 use Rattle.reading.proofs.states.Search.next.Goals as goal
 use Rattle.reading.proofs.states.Search.next.Goals.{Left-places, else-places-test, then-places-test+in-Some+then-marks-ne0}
@@ -89,17 +91,19 @@ leaves g c =
 pub invariant_of-self : goal.invariant_of-self
 invariant_of-self g c =
     let l = leaves g (goal.at.invariant_of-self g c).Left-places in
-    record { roomy = l.roomy; few = omega (arith, l.more, c.args.self.now.few, c.count_of.ensures.answer) }
+    let one : c.from.result ≡ count_of c.places-test.found = c.from.ensures ∙ ap from_bool c.is_some.ensures ∙ counts_one _ in
+    record { roomy = l.roomy; few = omega (arith, l.more, c.args.self.now.few, one) }
 
 pub returns : goal.returns
 returns g c =
     let me = c.args.self.now in
     let l = leaves g (goal.at.returns g c).Left-places in
     let n = next_by _ _ c.shortest-least.ensures.answer l.next in
+    let one : c.from.result ≡ count_of c.places-test.found = c.from.ensures ∙ ap from_bool c.is_some.ensures ∙ counts_one _ in
     record {
       answer = n;
-      counted = omega (arith, c.count_of.ensures.answer);
+      counted = omega (arith, one);
       kept = refl;
       hit = λ answers s. hit_is me (g.T.Trace.lawful me.reading.trace) s _ _ n;
-      standing = λ answers s. record { lettered = s.lettered; reached = asked s.reached n; counted = omega (arith, s.counted, c.count_of.ensures.answer, count_more answers c.places-test.found) };
+      standing = λ answers s. record { lettered = s.lettered; reached = asked s.reached n; counted = omega (arith, s.counted, one, count_more answers c.places-test.found) };
     }
