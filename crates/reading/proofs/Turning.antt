@@ -29,7 +29,7 @@ use Rattle.reading.specs.Spots.{conf_of}
 use Rattle.reading.specs.Standing.{Standing}
 use Rattle.reading.specs.Admission.{Admitted, Replaced}
 use Rattle.reading.specs.Histories.{History, Order, Buffer, order, begun, admitted, searched, answers, in_turn, Follows, DueInTurn, DueIf}
-use Rattle.reading.specs.Sessions.{trace_of, Rests, Agrees, Promised}
+use Rattle.reading.specs.Sessions.{trace_of, Rests, Agrees, Promised, Made}
 use Rattle.reading.proofs.Looking.{length_letters}
 use Rattle.reading.proofs.Accepting.{drawn_accepted}
 
@@ -47,6 +47,12 @@ module _ {T D : Type 0} (K : ℕ) (row : List (Result ℕ D)) where
   pub of_call : (s s' : Session T) (c c' : Call) (a : Answer D) → c ≡ c' → Promised K row s c' a s' → Promised K row s c a s'
   of_call s s' c c' a e p = subst (λ (x : Call). Promised K row s x a s') (sym e) p
 
+  -- ---- in either state
+
+  pub drawn : (s : Session T) (plan : Plan) (m m' : Buffer) (x : Result Sheet DrawError) → Draws plan (vec_items m) (vec_items m') x → Promised K row s (Draw plan m) (Drawn x m') s
+  drawn (Idle r) plan m m' x d h a = (record { held = (x, m'); is = refl; due = d }, a)
+  drawn (Searching s) plan m m' x d h a = (record { held = (x, m'); is = refl; due = d }, a)
+
   -- ---- outside a search
 
   pub judged : (r r' : Reading T) (plan : Plan) (sheet : Sheet) (m w m' w' : Buffer) (v : Result (Unit {0}) AdmitRefusal) → Admitted K plan sheet (vec_items m) (vec_items w) (vec_items w') v → Wiped (vec_items m) (vec_items m') → Replaced plan sheet r r' v → Promised K row (Idle r) (Admit plan sheet m w) (Judged v m' w') (Idle r')
@@ -57,17 +63,11 @@ module _ {T D : Type 0} (K : ℕ) (row : List (Result ℕ D)) where
       go h (Ok u) a d e = record { shut = a.shut; holds = rw (e.1, e.2); lettered = ap letters_of e.1 ∙ d.0 }
       go h (Err refusal) a d e = subst (λ (x : Reading T). Rests K (begun h) (admitted K h) x) (sym e) a
 
-  pub drawn_idle : (r : Reading T) (plan : Plan) (m m' : Buffer) (x : Result Sheet DrawError) → Draws plan (vec_items m) (vec_items m') x → Promised K row (Idle r) (Draw plan m) (Drawn x m') (Idle r)
-  drawn_idle r plan m m' x d h a = (record { held = (x, m'); is = refl; due = d }, a)
-
   pub replaced_trace : (r r' : Reading T) (plan : Plan) (sheet : Sheet) (v : Result (Unit {0}) AdmitRefusal) → Replaced plan sheet r r' v → r'.trace ≡ r.trace
   replaced_trace r r' plan sheet (Ok u) e = e.0
   replaced_trace r r' plan sheet (Err refusal) e = ap (λ (x : Reading T). x.trace) e
 
   -- ---- inside one
-
-  pub drawn_searching : (s : Search T) (plan : Plan) (m m' : Buffer) (x : Result Sheet DrawError) → Draws plan (vec_items m) (vec_items m') x → Promised K row (Searching s) (Draw plan m) (Drawn x m') (Searching s)
-  drawn_searching s plan m m' x d h a = (record { held = (x, m'); is = refl; due = d }, a)
 
   pub passed_searching : (s : Search T) (plan : Plan) (sheet : Sheet) (m w : Buffer) → Promised K row (Searching s) (Admit plan sheet m w) (OutOfTurn (Admit plan sheet m w)) (Searching s)
   passed_searching s plan sheet m w h a = (out_of_turn K row _ h (Admit plan sheet m w) (rw a.opened), a)
@@ -136,16 +136,6 @@ module _ {T D : Type 0} (K : ℕ) (row : List (Result ℕ D)) where
 pub trace_kept : {T : Type 0} (r r' : Reading T) → r' ≡ r → r'.trace ≡ r.trace
 trace_kept {T} r r' e = ap (λ (x : Reading T). x.trace) e
 
--- what a call comes to
-pub record Settled {T D : Type 0} (K : ℕ) (row : List (Result ℕ D)) (s : Session T) (c : Call) (t : T) (x : Session T × Answer D) : Type 0 where
-  pub kept : trace_of x.0 ≡ t
-  pub law : Promised K row s c x.1 x.0
-
-pub settled : {T D : Type 0} (K : ℕ) (row : List (Result ℕ D)) (s : Session T) (c c' : Call) (t : T) (x y : Session T × Answer D) → x ≡ y → c ≡ c' → trace_of y.0 ≡ t → Promised K row s c' y.1 y.0 → Settled K row s c t x
-settled {T} {D} K row s c c' t x y e f k p =
-    subst (λ (z : Session T × Answer D). Settled K row s c t z) (sym e) (record { kept = k; law = of_call K row s y.0 c c' y.1 f p })
-
 -- a session by what it is known to be
-pub known : {T D : Type 0} (K : ℕ) (row : T → List (Result ℕ D)) (s s₀ x : Session T) (c : Call) (a : Answer D) → s ≡ s₀ → trace_of x ≡ trace_of s₀ → Promised K (row (trace_of s₀)) s₀ c a x → (trace_of x ≡ trace_of s) × Promised K (row (trace_of s)) s c a x
-known {T} {D} K row s s₀ x c a e k p =
-    subst (λ (y : Session T). (trace_of x ≡ trace_of y) × Promised K (row (trace_of y)) y c a x) (sym e) (k, p)
+pub made : {T D : Type 0} (K : ℕ) (row : T → List (Result ℕ D)) (s s₀ s' : Session T) (c : Call) (a : Answer D) → s ≡ s₀ → trace_of s' ≡ trace_of s₀ → Promised K (row (trace_of s₀)) s₀ c a s' → Made K row s c (s', a)
+made K row s s₀ s' c a e k p = rw e (record { kept = k; law = p })

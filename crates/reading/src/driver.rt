@@ -1,129 +1,20 @@
 //! Any list of calls, made in turn.
 ghost use Rattle.std.specs.Prelude.{◌≡◌, [], length, IfOk};
-ghost use Rattle.reading.specs.declared.sessions.Session.TheVariants.{Idle, Searching};
-ghost use Rattle.judge.specs.Memory.{Wiped};
-ghost use Rattle.judge.specs.Drawings.{Draws};
-ghost use Rattle.reading.specs.Admission.{Admitted, Replaced};
+ghost use Rattle.reading.specs.declared.calls.Call.TheVariants.{Admit, Begin, Next, Report, Close};
+ghost use Rattle.reading.specs.declared.calls.Answer.TheVariants.{Begun};
+ghost use Rattle.reading.specs.Cells.{inspected};
 ghost use Rattle.reading.specs.Promise.{Performed};
-ghost use Rattle.reading.specs.Sessions.{trace_of, Agrees, Promised, Continues};
+ghost use Rattle.reading.specs.Sessions.{trace_of, Agrees, Made, Continues};
 
 use crate::calls::{Answer, Call};
-use crate::refusals::AdmitRefusal;
+use crate::cell_fault::CellFault;
 use crate::sessions::Session;
-use crate::states::{Reading, Search};
-use judge::{DrawError, draw};
+use crate::states::Reading;
+use judge::draw;
 use plan::Plan;
 use sheet::Sheet;
 use std::alloc::{AllocError, Global};
 use trace::interface::Trace;
-
-// Draws in a memory that comes back.
-fn draw_with(heap: Global, plan: Plan, mut memory: Vec<u64>) -> (Result<Sheet, DrawError>, Vec<u64>)
-    ensures drawn { Draws plan memory.items result.1.items result.0 }
-{
-    let sheet = draw(heap, &plan, memory.as_mut_slice());
-    (sheet, memory)
-}
-
-// Admits with buffers that come back.
-fn admit_with<T: Trace>(
-    reading: &mut Reading<T>,
-    plan: Plan,
-    sheet: Sheet,
-    mut memory: Vec<u64>,
-    mut word: Vec<u8>,
-) -> (Result<(), AdmitRefusal>, Vec<u64>, Vec<u8>)
-    ensures answer { Admitted T.Trace.alphabet plan sheet memory.items word.items result.2.items result.0 }
-    ensures wiped { Wiped memory.items result.1.items }
-    ensures held { Replaced plan sheet reading.old reading.new result.0 }
-{
-    let verdict = reading.admit(plan, sheet, memory.as_mut_slice(), word.as_mut_slice());
-    (verdict, memory, word)
-}
-
-// A call outside a search.
-fn idle<T: Trace>(heap: Global, reading: Reading<T>, call: Call) -> (Session<T>, Answer<T::Damage>)
-    ensures kept { trace_of result.0 ≡ reading.trace }
-    ensures law { Promised T.Trace.alphabet (T.Trace.row reading.trace) (Idle reading) call result.1 result.0 }
-{
-    match call {
-        Call::Draw { plan, memory } => {
-            let (sheet, memory) = draw_with(heap, plan, memory);
-            (Session::Idle(reading), Answer::Drawn { sheet, memory })
-        }
-        Call::Admit {
-            plan,
-            sheet,
-            memory,
-            word,
-        } => {
-            let mut reading = reading;
-            let (verdict, memory, word) = admit_with(&mut reading, plan, sheet, memory, word);
-            (
-                Session::Idle(reading),
-                Answer::Judged {
-                    verdict,
-                    memory,
-                    word,
-                },
-            )
-        }
-        Call::Inspect(i) => {
-            let cell = reading.inspect(i);
-            (Session::Idle(reading), Answer::Cell(cell))
-        }
-        Call::Begin => (Session::Searching(reading.begin()), Answer::Begun),
-        Call::Next => (Session::Idle(reading), Answer::OutOfTurn(Call::Next)),
-        Call::Report => (Session::Idle(reading), Answer::OutOfTurn(Call::Report)),
-        Call::Close => (Session::Idle(reading), Answer::OutOfTurn(Call::Close)),
-    }
-}
-
-// A call inside a search.
-fn searching<T: Trace>(
-    heap: Global,
-    search: Search<T>,
-    call: Call,
-) -> (Session<T>, Answer<T::Damage>)
-    ensures kept { trace_of result.0 ≡ search.reading.trace }
-    ensures law { Promised T.Trace.alphabet (T.Trace.row search.reading.trace) (Searching search) call result.1 result.0 }
-{
-    match call {
-        Call::Draw { plan, memory } => {
-            let (sheet, memory) = draw_with(heap, plan, memory);
-            (Session::Searching(search), Answer::Drawn { sheet, memory })
-        }
-        Call::Admit {
-            plan,
-            sheet,
-            memory,
-            word,
-        } => (
-            Session::Searching(search),
-            Answer::OutOfTurn(Call::Admit {
-                plan,
-                sheet,
-                memory,
-                word,
-            }),
-        ),
-        Call::Inspect(i) => {
-            let cell = search.inspect(i);
-            (Session::Searching(search), Answer::Cell(cell))
-        }
-        Call::Begin => (Session::Searching(search.begin()), Answer::Begun),
-        Call::Next => {
-            let mut search = search;
-            let found = search.next();
-            (Session::Searching(search), Answer::Found(found))
-        }
-        Call::Report => {
-            let report = search.report();
-            (Session::Searching(search), Answer::Told(report))
-        }
-        Call::Close => (Session::Idle(search.close()), Answer::Closed),
-    }
-}
 
 impl<T: Trace + Drop> Session<T> {
     /// Sets up a reading of the trace: its history is empty.
@@ -134,15 +25,120 @@ impl<T: Trace + Drop> Session<T> {
     }
 }
 
+// What a call comes to: the session after it, and its answer.
 impl<T: Trace> Session<T> {
-    /// Makes a call, if it is in its turn: the answer is due after the calls that were made before, whatever they were.
-    pub fn make(self, heap: Global, call: Call) -> (Session<T>, Answer<T::Damage>)
-        ensures kept { trace_of result.0 ≡ trace_of self }
-        ensures law { Promised T.Trace.alphabet (T.Trace.row (trace_of self)) self call result.1 result.0 }
+    // Admits with buffers that come back; inside a search they come back with the call.
+    fn admit(
+        self,
+        plan: Plan,
+        sheet: Sheet,
+        mut memory: Vec<u64>,
+        mut word: Vec<u8>,
+    ) -> (Session<T>, Answer<T::Damage>)
+        ensures { Made T.Trace.alphabet T.Trace.row self (Admit plan sheet memory word) result }
     {
         match self {
-            Session::Idle(reading) => idle(heap, reading, call),
-            Session::Searching(search) => searching(heap, search, call),
+            Session::Idle(mut reading) => {
+                let verdict =
+                    reading.admit(plan, sheet, memory.as_mut_slice(), word.as_mut_slice());
+                let answer = Answer::Judged {
+                    verdict,
+                    memory,
+                    word,
+                };
+                (Session::Idle(reading), answer)
+            }
+            Session::Searching(search) => {
+                let call = Call::Admit {
+                    plan,
+                    sheet,
+                    memory,
+                    word,
+                };
+                (Session::Searching(search), Answer::OutOfTurn(call))
+            }
+        }
+    }
+
+    // Tells a cell, outside a search and inside one.
+    fn inspect(&self, i: usize) -> Result<u8, CellFault<T::Damage>>
+        ensures answer { result ≡ inspected (T.Trace.row (trace_of self.now)) i }
+    {
+        match self {
+            Session::Idle(reading) => reading.inspect(i),
+            Session::Searching(search) => search.inspect(i),
+        }
+    }
+
+    // Begins a search, or begins it anew.
+    fn begin(self) -> Session<T>
+        ensures { Made T.Trace.alphabet T.Trace.row self Begin (result, Begun) }
+    {
+        match self {
+            Session::Idle(reading) => Session::Searching(reading.begin()),
+            Session::Searching(search) => Session::Searching(search.begin()),
+        }
+    }
+
+    // Asks a search for the next hit.
+    fn next(self) -> (Session<T>, Answer<T::Damage>)
+        ensures { Made T.Trace.alphabet T.Trace.row self Next result }
+    {
+        match self {
+            Session::Idle(reading) => (Session::Idle(reading), Answer::OutOfTurn(Call::Next)),
+            Session::Searching(mut search) => {
+                let found = search.next();
+                (Session::Searching(search), Answer::Found(found))
+            }
+        }
+    }
+
+    // Asks a search for its report.
+    fn report(self) -> (Session<T>, Answer<T::Damage>)
+        ensures { Made T.Trace.alphabet T.Trace.row self Report result }
+    {
+        match self {
+            Session::Idle(reading) => (Session::Idle(reading), Answer::OutOfTurn(Call::Report)),
+            Session::Searching(search) => {
+                let report = search.report();
+                (Session::Searching(search), Answer::Told(report))
+            }
+        }
+    }
+
+    // Ends a search.
+    fn close(self) -> (Session<T>, Answer<T::Damage>)
+        ensures { Made T.Trace.alphabet T.Trace.row self Close result }
+    {
+        match self {
+            Session::Idle(reading) => (Session::Idle(reading), Answer::OutOfTurn(Call::Close)),
+            Session::Searching(search) => (Session::Idle(search.close()), Answer::Closed),
+        }
+    }
+
+    /// Makes a call, if it is in its turn: the answer is due after the calls that were made before, whatever they were.
+    pub fn make(self, heap: Global, call: Call) -> (Session<T>, Answer<T::Damage>)
+        ensures { Made T.Trace.alphabet T.Trace.row self call result }
+    {
+        match call {
+            Call::Draw { plan, mut memory } => {
+                let sheet = draw(heap, &plan, memory.as_mut_slice());
+                (self, Answer::Drawn { sheet, memory })
+            }
+            Call::Admit {
+                plan,
+                sheet,
+                memory,
+                word,
+            } => self.admit(plan, sheet, memory, word),
+            Call::Inspect(i) => {
+                let cell = self.inspect(i);
+                (self, Answer::Cell(cell))
+            }
+            Call::Begin => (self.begin(), Answer::Begun),
+            Call::Next => self.next(),
+            Call::Report => self.report(),
+            Call::Close => self.close(),
         }
     }
 }
