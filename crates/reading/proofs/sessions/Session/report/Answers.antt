@@ -1,6 +1,5 @@
 -- `report`: what the search has come to, and that its fetches are few.
 use Rattle.std.proofs.Common.{refl}
-use Rattle.reading.specs.declared.sessions.Session.TheVariants.{Searching}
 use Rattle.reading.proofs.Turning.{told_of, made}
 use Rattle.reading.proofs.sessions.Session.report.Goals as goal
 
