@@ -9,25 +9,18 @@ use Rattle.automaton.proofs.Wrong.{bare_sheets_are_right_lem}
 use Rattle.plan.specs.declared.Plan.{Plan}
 use Rattle.plan.specs.Views.{letters_of, patterns_of}
 use Rattle.sheet.specs.declared.Sheet.{Sheet}
-use Rattle.sheet.specs.declared.refusals.SheetRefusal.{SheetRefusal}
 use Rattle.sheet.specs.declared.refusals.SheetRefusal.TheVariants.{Counts}
 use Rattle.sheet.specs.Tables.{Table, single, arrow_from, arrow_of, entry_at}
 use Rattle.sheet.specs.Files.{ask, is_counted}
 use Rattle.sheet.specs.Views.{table_of, automaton_in, automaton_of}
 
--- 1 to 32 letters are never refused: not by the plan without patterns, and not by the sheet of one state
+-- 1 to 32 letters are never refused by the plan without patterns
 pub always_planned : {P E : Type 0} (planned : Result P E → Result (List (List ℕ)) E) → ((x : E) → planned (Err x) ≡ Err x) → (K : ℕ) (r : Result P E) (y : E) → planned r ≡ cond (leb 1 K && leb K 32) (Ok []) (Err y) → 1 ≤ K → K ≤ 32 → IsOk r
 always_planned {P} {E} planned refused K r y e h g = go r (rw (le-leb 1 K h, le-leb K 32 g) at e)
   where
     go : (r : Result P E) → planned r ≡ Ok [] → IsOk r
     go (Ok plan) f = grind arith
     go (Err x) f = let z = refused x in absurd cc
-
-pub never_refused : (K : ℕ) (x : SheetRefusal) → ask (is_counted 1 K) Counts (Ok (single K 0)) ≡ Err x → 1 ≤ K → K ≤ 32 → ⊥
-never_refused K x e h g = clash (rw (le-leb 1 K h, le-leb K 32 g) at e)
-  where
-    clash : ◌≡◌ {A = Result Table SheetRefusal} (Ok (single K 0)) (Err x) → ⊥
-    clash f = cc
 
 pub single_table : (K : ℕ) (t : Table) → ask (is_counted 1 K) Counts (Ok (single K 0)) ≡ Ok t → t ≡ single K 0
 single_table K t = go (is_counted 1 K)

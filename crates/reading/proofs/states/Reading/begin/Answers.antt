@@ -4,7 +4,6 @@ use Rattle.automaton.specs.Search.{start}
 use Rattle.reading.proofs.Answering.{reached_start}
 use Rattle.reading.proofs.states.Reading.begin.Goals as goal
 
-pub returns : goal.returns
-returns g c =
-    let at = c.first-at.ensures.answer ∙ ap start c.shortest.ensures.answer in
-    record { held = refl; answer = (at, refl); standing = λ e. record { lettered = e; reached = reached_start _ _ _ _ at; counted = refl } }
+pub returns-clause-standing : goal.returns-clause-standing
+returns-clause-standing g c e =
+    record { lettered = e; reached = reached_start _ _ _ _ (c.first-at.ensures.answer ∙ ap start c.shortest.ensures.answer); counted = refl }

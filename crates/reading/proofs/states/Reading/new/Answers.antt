@@ -3,18 +3,13 @@ use Rattle.std.proofs.Common.{sym, refl, ap, ◌∙◌, arith}
 use Rattle.plan.specs.Views.{planned}
 use Rattle.plan.proofs.Reading.{emptied}
 use Rattle.sheet.specs.Tables.{Table}
-use Rattle.reading.proofs.Fresh.{always_planned, never_refused, single_table, fresh_right, fresh_least}
+use Rattle.reading.proofs.Fresh.{always_planned, single_table, fresh_right, fresh_least}
 use Rattle.reading.proofs.states.Reading.new.Goals as goal
 
 pub unwrap-plan-requires : goal.unwrap-plan-requires
 unwrap-plan-requires g c =
     let l = g.T.Trace.lawful c.args.trace in
     always_planned planned (λ x. refl) c.letters-letters.result _ _ c.empty.ensures.answer (omega (arith, l.some_letter)) (omega (arith, l.few_letters))
-
-pub unreachable-requires : goal.unreachable-requires
-unreachable-requires g c =
-    let l = g.T.Trace.lawful c.args.trace in
-    never_refused c.letters-letters.result c.in-Err-Refused.field-0-0 (rw c.in-Err-Refused.field-0-is at c.in-Err-Refused.ensures.answer) (omega (arith, l.some_letter)) (omega (arith, l.few_letters))
 
 pub invariant_of-result : goal.invariant_of-result
 invariant_of-result g c =
