@@ -1,6 +1,5 @@
 -- Each call keeps the law.
-use Rattle.std.proofs.Common.{◌≡◌, ℕ, ◌+◌, ◌-◌, ◌*◌, ◌<◌, ◌≤◌, Bool, true, false, List, ◌∷◌, length, Ok, Err, vec_items, Option, Result, sym, refl, ap, ◌∙◌, subst, arith}
-use Rattle.pattern.specs.Patterns.{shortest, longest}
+use Rattle.std.proofs.Common.{◌≡◌, ℕ, Bool, true, false, List, ◌∷◌, length, Ok, Err, vec_items, Option, Result, sym, refl, ap, ◌∙◌, subst, arith}
 use Rattle.pattern.specs.Rows.{Hit as Place}
 use Rattle.plan.specs.declared.Plan.{Plan}
 use Rattle.plan.specs.Views.{letters_of, patterns_of}
@@ -20,7 +19,7 @@ use Rattle.reading.specs.declared.sessions.Session.{Session}
 use Rattle.reading.specs.declared.sessions.Session.TheVariants.{Idle, Searching}
 use Rattle.reading.specs.Cells.{letters_in}
 use Rattle.reading.specs.Spots.{conf_of}
-use Rattle.reading.specs.Standing.{Standing}
+use Rattle.reading.specs.Standing.{Standing, Thrifty}
 use Rattle.reading.specs.Admission.{Admitted, Replaced}
 use Rattle.reading.specs.Histories.{History, Order, Buffer, order, begun, admitted, searched, answers, DueInTurn, DueIf}
 use Rattle.reading.specs.Sessions.{trace_of, Rests, Agrees, Promised, Made}
@@ -60,10 +59,10 @@ module _ {T D : Type 0} (K : ℕ) (row : List (Result ℕ D)) where
   -- ---- inside one
 
   -- the bound on the fetches, for the plan that is searched and the letters of the row
-  thrifty : (s : Search T) (used : Order) (fetches : ℕ) → used ≡ order s.reading.plan s.reading.sheet → (0 < length (patterns_of s.reading.plan) → shortest (patterns_of s.reading.plan) ≤ length row → fetches ≤ (length row - shortest (patterns_of s.reading.plan) + 1) * (longest (patterns_of s.reading.plan) + 1)) → 0 < length used.plan → shortest used.plan ≤ length (letters_in row) → fetches ≤ (length (letters_in row) - shortest used.plan + 1) * (longest used.plan + 1)
+  thrifty : (s : Search T) (used : Order) (fetches : ℕ) → used ≡ order s.reading.plan s.reading.sheet → Thrifty (length row) (patterns_of s.reading.plan) fetches → Thrifty (length (letters_in row)) used.plan fetches
   thrifty s used fetches e h = rw (e, length_letters row) h
 
-  pub told_of : (s : Search T) (r : Account) → r ≡ record { hits = s.hits; fetches = s.at.fetches; damaged = s.at.damaged } → ((told : List (Option Place)) → Standing K row told s → 0 < length (patterns_of s.reading.plan) → shortest (patterns_of s.reading.plan) ≤ length row → r.fetches ≤ (length row - shortest (patterns_of s.reading.plan) + 1) * (longest (patterns_of s.reading.plan) + 1)) → Promised K row (Searching s) Report (Told r) (Searching s)
+  pub told_of : (s : Search T) (r : Account) → r ≡ record { hits = s.hits; fetches = s.at.fetches; damaged = s.at.damaged } → ((told : List (Option Place)) → Standing K row told s → Thrifty (length row) (patterns_of s.reading.plan) r.fetches) → Promised K row (Searching s) Report (Told r) (Searching s)
   told_of s r e thrift =
       λ h a. (
         in_turn_lem K row _ h Report (Told r) a.opened (record {

@@ -1,12 +1,9 @@
 //! The calls on readings and searches, but for the search itself.
-ghost use Rattle.std.specs.Prelude.{◌≡◌, ◌+◌, ◌-◌, ◌*◌, ◌<◌, ◌≤◌, List, [], length, Option};
-ghost use Rattle.pattern.specs.Patterns.{shortest, longest};
+ghost use Rattle.std.specs.Prelude.{◌≡◌, List, length, Option};
 ghost use Rattle.pattern.specs.Rows.{Hit as Place};
-ghost use Rattle.automaton.specs.Search.{start};
-ghost use Rattle.plan.specs.Views.{letters_of, patterns_of};
+ghost use Rattle.plan.specs.Views.{patterns_of};
 ghost use Rattle.reading.specs.Cells.{inspected};
-ghost use Rattle.reading.specs.Spots.{conf_of};
-ghost use Rattle.reading.specs.Standing.{Standing, Fresh};
+ghost use Rattle.reading.specs.Standing.{Stands, Begins, Thrifty, Fresh};
 
 use crate::cell_fault::CellFault;
 use crate::hits::Report;
@@ -43,9 +40,7 @@ impl<T: Trace> Reading<T> {
 
     /// Begins a search.
     pub fn begin(self) -> Search<T>
-        ensures held { result.reading ≡ self }
-        ensures answer { (conf_of result.at ≡ start (shortest (patterns_of self.plan))) × (result.hits ≡ 0) }
-        ensures standing { letters_of self.plan ≡ T.Trace.alphabet → Standing T.Trace.alphabet (T.Trace.row self.trace) [] result }
+        ensures { Begins T.Trace.alphabet T.Trace.row self result }
     {
         let at = Spot::first(self.plan.shortest());
         Search {
@@ -67,7 +62,7 @@ impl<T: Trace> Search<T> {
     /// What the search has come to since it was begun.
     pub fn report(&self) -> Report
         ensures answer { result ≡ record { hits = self.now.hits; fetches = self.now.at.fetches; damaged = self.now.at.damaged } }
-        ensures thrift { (answers : List (Option Place)) → Standing T.Trace.alphabet (T.Trace.row self.now.reading.trace) answers self.now → 0 < length (patterns_of self.now.reading.plan) → shortest (patterns_of self.now.reading.plan) ≤ length (T.Trace.row self.now.reading.trace) → result.fetches ≤ (length (T.Trace.row self.now.reading.trace) - shortest (patterns_of self.now.reading.plan) + 1) * (longest (patterns_of self.now.reading.plan) + 1) }
+        ensures thrift { (answers : List (Option Place)) → Stands T.Trace.alphabet T.Trace.row answers self.now → Thrifty (length (T.Trace.row self.now.reading.trace)) (patterns_of self.now.reading.plan) result.fetches }
     {
         Report {
             hits: self.hits,
@@ -90,9 +85,7 @@ impl<T: Trace> Search<T> {
 
     /// Ends the search and begins another.
     pub fn begin(self) -> Search<T>
-        ensures held { result.reading ≡ self.reading }
-        ensures answer { (conf_of result.at ≡ start (shortest (patterns_of self.reading.plan))) × (result.hits ≡ 0) }
-        ensures standing { letters_of self.reading.plan ≡ T.Trace.alphabet → Standing T.Trace.alphabet (T.Trace.row self.reading.trace) [] result }
+        ensures { Begins T.Trace.alphabet T.Trace.row self.reading result }
     {
         self.close().begin()
     }

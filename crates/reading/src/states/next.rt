@@ -1,17 +1,12 @@
 //! The search itself: `next` reads back from one place after the other, and jumps over cells that it need not read.
-ghost use Rattle.std.specs.Prelude.{◌≡◌, ◌+◌, ◌^◌, ◌<◌, List, ◌∷◌, length, Option};
-ghost use Rattle.std.specs.List.{slice_get};
-ghost use Rattle.pattern.specs.Patterns.{shortest};
-ghost use Rattle.pattern.specs.Images.{images_of};
-ghost use Rattle.pattern.specs.Rows.{full};
+ghost use Rattle.std.specs.Prelude.{◌≡◌, ◌+◌, ◌^◌, ◌<◌, List, ◌∷◌, Option};
 ghost use Rattle.pattern.specs.Rows.{Hit as Place};
-ghost use Rattle.automaton.specs.Search.{following, jumped, stepped, Next};
-ghost use Rattle.plan.specs.Views.{patterns_of};
+ghost use Rattle.automaton.specs.Search.{following, jumped, stepped};
 ghost use Rattle.sheet.specs.Views.{automaton_of};
 ghost use Rattle.reading.specs.Cells.{letters_in};
 ghost use Rattle.reading.specs.Hits.{placed, count_of};
 ghost use Rattle.reading.specs.Spots.{conf_of, looked};
-ghost use Rattle.reading.specs.Standing.{Standing};
+ghost use Rattle.reading.specs.Standing.{Stands, Steps, hit_after};
 
 use crate::hits::Hit;
 use crate::spot::Spot;
@@ -74,11 +69,11 @@ impl Spot {
 impl<T: Trace> Search<T> {
     /// The next hit, or none at the end. The following call goes on where this one left.
     pub fn next(&mut self) -> Option<Hit>
-        ensures answer { Next (automaton_of self.old.reading.sheet) (shortest (patterns_of self.old.reading.plan)) (letters_in (T.Trace.row self.old.reading.trace)) (conf_of self.old.at) (placed result) (conf_of self.new.at) }
+        ensures answer { Steps T.Trace.row self.old result self.new }
         ensures counted { self.new.hits ≡ self.old.hits + count_of result }
         ensures kept { self.new.reading ≡ self.old.reading }
-        ensures hit { (answers : List (Option Place)) → Standing T.Trace.alphabet (T.Trace.row self.old.reading.trace) answers self.old → placed result ≡ slice_get (full (images_of (patterns_of self.old.reading.plan)) (letters_in (T.Trace.row self.old.reading.trace))) self.old.hits }
-        ensures standing { (answers : List (Option Place)) → Standing T.Trace.alphabet (T.Trace.row self.old.reading.trace) answers self.old → Standing T.Trace.alphabet (T.Trace.row self.old.reading.trace) (placed result ∷ answers) self.new }
+        ensures hit { (answers : List (Option Place)) → Stands T.Trace.alphabet T.Trace.row answers self.old → placed result ≡ hit_after T.Trace.row self.old }
+        ensures standing { (answers : List (Option Place)) → Stands T.Trace.alphabet T.Trace.row answers self.old → Stands T.Trace.alphabet T.Trace.row (placed result ∷ answers) self.new }
     {
         let least = self.reading.plan.shortest();
         let len = self.reading.trace.len();
