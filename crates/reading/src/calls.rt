@@ -15,6 +15,7 @@ pub enum Call {
         memory: Vec<u64>,
     },
     /// Admit the plan and the sheet, judged in this working memory, with a buffer for a wrong word.
+    // The four travel together here alone, and a call with names for them reads better than one that holds a struct of them.
     Admit {
         plan: Plan,
         sheet: Sheet,

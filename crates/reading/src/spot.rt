@@ -7,6 +7,7 @@ use sheet::{START, StateNumber};
 
 /// Reading back from cell `p`, `o` cells were read and led to the state `q`; `c` of them are the longest proper prefix among the
 /// texts read. With it the counts of the whole search.
+// That it is roomy is kept by a search and not by the type: from a fetch to the step or jump after it there is one fetch too many.
 #[derive(Clone, Copy, Debug)]
 pub(crate) struct Spot {
     pub p: usize,

@@ -75,11 +75,7 @@ impl<T: Trace> Search<T> {
     pub fn close(self) -> Reading<T>
         ensures answer { result ≡ self.reading }
     {
-        let Search {
-            reading,
-            at: _,
-            hits: _,
-        } = self;
+        let Search { reading, .. } = self;
         reading
     }
 

@@ -82,6 +82,7 @@ impl<T: Trace> Search<T> {
         }
         let mut at = self.at;
         let mut found = None;
+        // The inner loop reads back from one place, the outer one goes from place to place, and a hit leaves both by the label.
         'places: while at.p < len {
             loop {
                 let (seen, to) = self.reading.follow(at);

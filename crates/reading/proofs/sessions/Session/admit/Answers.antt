@@ -17,6 +17,6 @@ returns-in-Idle g c =
     let kept : length v.new.word ≡ length c.as_mut_slice-in-Idle.result.now = search rules in
     made K g.T.Trace.row _ _ _ _ _ c.in-Idle.is (replaced_trace K row r v.new.self plan sheet v.result v.ensures.held)
     (judged K row r v.new.self plan sheet c.args.memory c.args.word _ _ v.result
-      (admitted_back K plan sheet _ _ _ _ v.new.word _ _ v.result m.value w.value w.len kept v.ensures.answer)
-      (wiped_back _ _ _ _ _ m.value m.len v.ensures.wiped)
-      v.ensures.held)
+    (admitted_back K plan sheet _ _ _ _ v.new.word _ _ v.result m.value w.value w.len kept v.ensures.answer)
+    (wiped_back _ _ _ _ _ m.value m.len v.ensures.wiped)
+    v.ensures.held)
