@@ -17,8 +17,8 @@ pub enum AdmitRefusal {
 impl From<JudgeRefusal> for AdmitRefusal {
     ghost from_gives = { λ e r. r ≡ AboutSheet e };
 
-    fn from(refusal: JudgeRefusal) -> AdmitRefusal {
-        AdmitRefusal::Sheet(refusal)
+    fn from(question: JudgeRefusal) -> AdmitRefusal {
+        AdmitRefusal::Sheet(question)
     }
 }
 

@@ -61,20 +61,16 @@ fn hit_in(answer: &Answer<SignDamage>) -> Option<Hit> {
 #[test]
 fn a_list_of_calls(rt: HostRuntime) -> Result<(), Fail> {
     let heap = rt.alloc();
-    let mut calls: Vec<Call> = Vec::new(heap);
-    calls.push(admission(heap)?)?;
-    calls.push(Call::Begin)?;
-    calls.push(Call::Next)?;
-    calls.push(Call::Next)?;
-    calls.push(Call::Next)?;
+    let calls: Vec<Call> = vec![in heap;
+        admission(heap)?,
+        Call::Begin,
+        Call::Next,
+        Call::Next,
+        Call::Next,
+    ]?;
     let answers = perform(heap, SignLog::open(b"XABABA")?, calls)?;
     assert_eq!(rt; answers.len(), 5);
-    let mut hits: Vec<Hit> = Vec::new(heap);
-    for answer in &answers {
-        if let Some(hit) = hit_in(answer) {
-            hits.push(hit)?;
-        }
-    }
+    let hits: Vec<Hit> = answers.iter().filter_map(hit_in).collect(heap)?;
     assert!(rt; hits.as_slice() == [FIRST, SECOND].as_slice());
     Ok(())
 }
