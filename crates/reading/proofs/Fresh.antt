@@ -27,7 +27,7 @@ single_table K t = go (is_counted 1 K)
   where
     go : (b : Bool) → ask b Counts (Ok (single K 0)) ≡ Ok t → t ≡ single K 0
     go true e = cc
-    go false e = absurd (let z : ◌≡◌ {A = ℕ} 0 1 = cc in omega arith)
+    go false e = absurd cc
 
 get_d_same : {A : Type 0} (n i : ℕ) (a : A) → get_or (replicate n a) i a ≡ a
 get_d_same zero i a = refl

@@ -13,14 +13,14 @@ use Rattle.reading.specs.Spots.{conf_of, looked}
 
 module _ {D : Type 0} where
   pub read_letter : (row : List (Result ℕ D)) (i a : ℕ) → cell_at row i ≡ Ok a → cell (letters_in row) i ≡ Some a
-  read_letter [] i a e = absurd (let z : ◌≡◌ {A = ℕ} 0 1 = cc in omega arith)
+  read_letter [] i a e = absurd cc
   read_letter (Ok x ∷ row) zero a e = cc
-  read_letter (Err d ∷ row) zero a e = absurd (let z : ◌≡◌ {A = ℕ} 0 1 = cc in omega arith)
+  read_letter (Err d ∷ row) zero a e = absurd cc
   read_letter (x ∷ row) (suc i) a e = read_letter row i a e
 
   pub read_fault : (row : List (Result ℕ D)) (i : ℕ) (f : Fault D) → cell_at row i ≡ Err f → cell (letters_in row) i ≡ None
   read_fault [] i f e = refl
-  read_fault (Ok x ∷ row) zero f e = absurd (let z : ◌≡◌ {A = ℕ} 0 1 = cc in omega arith)
+  read_fault (Ok x ∷ row) zero f e = absurd cc
   read_fault (Err d ∷ row) zero f e = refl
   read_fault (x ∷ row) (suc i) f e = read_fault row i f e
 
@@ -32,9 +32,9 @@ module _ {D : Type 0} where
   short_letters {row = row} l = omega (arith, l.short, length_letters row)
 
   below_letters : (K : ℕ) (row : List (Result ℕ D)) → AllByRecursion (Below K) row → Lettered K (letters_in row)
-  below_letters K [] b i a e = absurd (let z : ◌≡◌ {A = ℕ} 0 1 = cc in omega arith)
+  below_letters K [] b i a e = absurd cc
   below_letters K (Ok x ∷ row) b zero a e = let z : x ≡ a = cc in omega (arith, b.0)
-  below_letters K (Err d ∷ row) b zero a e = absurd (let z : ◌≡◌ {A = ℕ} 0 1 = cc in omega arith)
+  below_letters K (Err d ∷ row) b zero a e = absurd cc
   below_letters K (x ∷ row) b (suc i) a e = below_letters K row b.1 i a e
 
   pub all_letters : {K : ℕ} {row : List (Result ℕ D)} → Lawful K row → Lettered K (letters_in row)

@@ -62,5 +62,5 @@ performed {T} {D} K row trace s s' calls given is fresh all so =
 
 -- nothing was made
 pub not_made : {X Y : Type 0} (r : Result X Y) (P : X → Type 0) → is_err r ≡ true → IfOk r P
-not_made (Ok x) P e = absurd (let z : ◌≡◌ {A = ℕ} 0 1 = cc in omega arith)
+not_made (Ok x) P e = absurd cc
 not_made (Err y) P e = tt

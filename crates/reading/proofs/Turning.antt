@@ -1,5 +1,5 @@
 -- Each call keeps the law.
-use Rattle.std.proofs.Common.{◌≡◌, ℕ, Bool, true, false, List, ◌∷◌, length, Ok, Err, vec_items, Option, Result, sym, refl, ap, ◌∙◌, subst, arith}
+use Rattle.std.proofs.Common.{◌≡◌, ℕ, Bool, true, false, List, ◌∷◌, length, Ok, Err, vec_items, Option, Result, sym, refl, ap, ◌∙◌, subst}
 use Rattle.pattern.specs.Rows.{Hit as Place}
 use Rattle.plan.specs.declared.Plan.{Plan}
 use Rattle.plan.specs.Views.{letters_of, patterns_of}
@@ -30,7 +30,7 @@ module _ {D : Type 0} (K : ℕ) (row : List (Result ℕ D)) where
   -- a call in its turn, or out of it
   in_turn_lem : (b : Bool) (before : History D) (c : Call) (a : Answer D) → b ≡ true → DueInTurn K row before c a → DueIf b K row before c a
   in_turn_lem true before c a e d = d
-  in_turn_lem false before c a e d = absurd (let z : ◌≡◌ {A = ℕ} 0 1 = cc in omega arith)
+  in_turn_lem false before c a e d = absurd cc
 
 module _ {T D : Type 0} (K : ℕ) (row : List (Result ℕ D)) where
   pub of_call : (s s' : Session T) (c c' : Call) (a : Answer D) → c ≡ c' → Promised K row s c' a s' → Promised K row s c a s'
