@@ -1,10 +1,10 @@
 -- The law gives the promise.
-use Rattle.std.proofs.Common.{◌≡◌, ℕ, zero, suc, ◌≤◌, Bool, true, false, ◌⊎◌, ◌↔◌, List, [], ◌∷◌, ◌++◌, length, take, Some, None, Ok, Err, vec_items, Option, Result, sym, refl, ap, ◌∙◌, subst, inl, inr, arith, length-append}
+use Rattle.std.proofs.Common.{◌≡◌, ℕ, suc, ◌≤◌, Bool, true, false, ◌⊎◌, ◌↔◌, List, [], ◌∷◌, ◌++◌, length, take, Some, None, Ok, Err, vec_items, Option, Result, sym, refl, ap, ◌∙◌, subst, inl, inr, arith, length-append}
 use Rattle.std.proofs.lemmas.List.{take_all}
-use Rattle.std.proofs.lemmas.Option.{slice_get_past}
+use Rattle.std.proofs.lemmas.Option.{slice_get_past, slice_get_within, slice_get_cases, get_or_from_slice_get}
+use Rattle.std.proofs.Math.Seq.{take-suc}
 use Rattle.std.specs.List.{slice_get}
 use Rattle.pattern.specs.Rows.{Hit as Place}
-use Rattle.automaton.proofs.Automata.{some_inj, none_some}
 use Rattle.plan.specs.declared.Plan.{Plan}
 use Rattle.plan.specs.Views.{letters_of}
 use Rattle.sheet.specs.declared.Sheet.{Sheet}
@@ -31,14 +31,14 @@ use Rattle.reading.specs.Promise.{full_list, Admission, Promise, AfterEach}
 -- ---- places of a list
 
 take_nth : {X : Type 0} (xs : List X) (n : ℕ) (x : X) → slice_get xs n ≡ Some x → take (suc n) xs ≡ take n xs ++ x ∷ []
-take_nth [] n x e = absurd (none_some e)
-take_nth (y ∷ ys) zero x e = ap (λ z. z ∷ []) (some_inj e)
-take_nth (y ∷ ys) (suc n) x e = ap (λ zs. y ∷ zs) (take_nth ys n x e)
+take_nth xs n x e = take-suc xs n x (slice_get_within xs n x e) ∙ ap (λ y. take n xs ++ y ∷ []) (get_or_from_slice_get xs n x x e)
 
 nth_none : {X : Type 0} (xs : List X) (n : ℕ) → slice_get xs n ≡ None → length xs ≤ n
-nth_none [] n e = omega arith
-nth_none (y ∷ ys) zero e = absurd (none_some (sym e))
-nth_none (y ∷ ys) (suc n) e = omega (arith, nth_none ys n e)
+nth_none xs n e =
+    elim (slice_get_cases xs n).1 [
+      | inl within ↦ absurd (cc (within.2, e))
+      | inr past ↦ past.0
+    ]
 
 module _ {D : Type 0} (K : ℕ) (row : List (Result ℕ D)) where
   -- ---- what is due, by the kind of the answer
@@ -98,7 +98,7 @@ module _ {D : Type 0} (K : ℕ) (row : List (Result ℕ D)) where
   at_the_end : (hits all : List Place) (x : Option Hit) → hits ≡ take (length hits) all → placed x ≡ slice_get all (length hits) → (x ≡ None) ↔ (hits ≡ all)
   at_the_end hits all None f g = (λ e. f ∙ take_all (length hits) all (nth_none all (length hits) (sym g)), λ e. refl)
   at_the_end hits all (Some h) f g =
-      (λ e. absurd (none_some (sym e)), λ e. absurd (none_some (sym (slice_get_past all (length hits) (let l : length hits ≡ length all = ap length e in omega arith)) ∙ sym g)))
+      (λ e. absurd cc, λ e. absurd (cc (slice_get_past all (length hits) (let l : length hits ≡ length all = ap length e in omega arith), g)))
 
   -- ---- the other parts
 
