@@ -14,6 +14,7 @@ pub enum AdmitRefusal {
     Sheet(JudgeRefusal),
 }
 
+// By this `From` an admission carries a judge's refusal up; a derived one would have no contract.
 impl From<JudgeRefusal> for AdmitRefusal {
     ghost from_gives = { λ e r. r ≡ AboutSheet e };
 
@@ -24,6 +25,7 @@ impl From<JudgeRefusal> for AdmitRefusal {
 
 impl AdmitRefusal {
     /// The number of the refusal.
+    // The questions about a sheet have numbers of their own, so these are no discriminants.
     pub fn number(self) -> u8
         ensures answer { result ≡ number_of self }
     {

@@ -82,7 +82,8 @@ impl<T: Trace> Search<T> {
         }
         let mut at = self.at;
         let mut found = None;
-        // The inner loop reads back from one place, the outer one goes from place to place, and a hit leaves both by the label.
+        // How far each loop goes is known only by reading, so neither is a chain: the inner one reads back from a place, the outer one
+        // goes from place to place, and a hit leaves both by the label.
         'places: while at.p < len {
             loop {
                 let (seen, to) = self.reading.follow(at);
