@@ -1,6 +1,6 @@
 -- Looking at one cell.
-use Rattle.std.proofs.Common.{◌≡◌, ℕ, zero, suc, ◌+◌, ◌-◌, ◌<◌, ◌≤◌, List, [], ◌∷◌, length, Some, None, Ok, Err, Option, Result, sym, refl, ap, add-one, arith}
-use Rattle.std.proofs.lemmas.Bool.{le-leb, lt-leb}
+use Rattle.std.proofs.Common.{◌≡◌, ℕ, zero, suc, ◌+◌, ◌-◌, ◌≤◌, List, [], ◌∷◌, length, Some, None, Ok, Err, Option, Result, sym, refl, ap, add-one, arith}
+use Rattle.std.proofs.lemmas.Bool.{le-leb}
 use Rattle.std.specs.List.{AllByRecursion}
 use Rattle.std.specs.Option.{option_or}
 use Rattle.trace.specs.declared.fault.Fault.{Fault}
@@ -45,9 +45,6 @@ abbrev pub fetched : Spot → Option ℕ → Spot
 fetched s d = record { p = s.p; o = s.o; q = s.q; c = s.c; fetches = s.fetches + 1; damaged = d }
 
 module _ (row : List (Option ℕ)) (s : Spot) where
-  pub looked_front : s.p < s.o → conf_of s ≡ looked row (conf_of s)
-  looked_front h = rw (lt-leb s.o s.p h)
-
   looked_at : (d : Option ℕ) → s.o ≤ s.p → d ≡ first_damaged s.damaged (s.p - s.o) (cell row (s.p - s.o)) → conf_of (fetched s d) ≡ looked row (conf_of s)
   looked_at d h e = rw (le-leb s.o s.p h, sym e, add-one s.fetches)
 

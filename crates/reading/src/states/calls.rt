@@ -40,6 +40,7 @@ impl<T: Trace> Reading<T> {
     }
 
     /// Begins a search.
+    #[tactic(auto, using(crate::proofs::Answering::reached_start))]
     pub fn begin(self) -> Search<T>
         ensures { Begins T.Trace.alphabet T.Trace.row self result }
     {

@@ -5,17 +5,12 @@ use Rattle.automaton.proofs.Ticks.{following_front, following_damage, following_
 use Rattle.sheet.specs.Views.{automaton_of}
 use Rattle.reading.specs.Cells.{letters_in}
 use Rattle.reading.specs.Spots.{conf_of}
-use Rattle.reading.proofs.Looking.{fetched, read_letter, read_fault, looked_front, looked_letter, looked_fault}
+use Rattle.reading.proofs.Looking.{fetched, read_letter, read_fault, looked_letter, looked_fault}
 use Rattle.reading.proofs.states.Reading.follow.Goals as goal
 
-pub returns-then-at : goal.returns-then-at
-returns-then-at g c =
-    let s = c.args.at in
-    let row = letters_in (g.T.Trace.row c.args.self.now.trace) in
-    record {
-      looked = looked_front row s c.if-at.true;
-      answer = sym (following_front (automaton_of c.args.self.now.sheet) row (conf_of s) c.if-at.true);
-    }
+pub returns-then-at-clause-answer : goal.returns-then-at-clause-answer
+returns-then-at-clause-answer g c =
+    sym (following_front (automaton_of c.args.self.now.sheet) (letters_in (g.T.Trace.row c.args.self.now.trace)) (conf_of c.args.at) c.if-at.true)
 
 pub returns-in-Ok : goal.returns-in-Ok
 returns-in-Ok g c =
