@@ -103,6 +103,7 @@ impl<T: Trace> Session<T> {
     }
 
     // Asks a search for its report.
+    #[tactic(auto, using(crate::proofs::Turning::told_of))]
     fn report(self) -> (Session<T>, Answer<T::Damage>)
         ensures { Made T.Trace.alphabet T.Trace.row self Report result }
     {
