@@ -1,5 +1,4 @@
 //! Admission: a reading takes a plan and a sheet for it, if the sheet has no wrong word.
-ghost use Rattle.std.specs.Prelude.{◌≡◌};
 ghost use Rattle.judge.specs.Memory.{Wiped};
 ghost use Rattle.reading.specs.Admission.{Admitted, Replaced};
 
