@@ -1,7 +1,8 @@
 -- A search that stands after some answers has answered the first hits of the full list, in order, and the end where they are all.
-use Rattle.std.proofs.Common.{◌≡◌, ℕ, suc, ◌+◌, ◌-◌, ◌*◌, ◌<◌, ◌≤◌, List, [], ◌∷◌, ◌++◌, length, Some, None, Option, Result, sym, refl, ap, ◌∙◌, arith}
+use Rattle.std.proofs.Common.{◌≡◌, ℕ, suc, ◌+◌, ◌-◌, ◌*◌, ◌≤◌, List, [], ◌∷◌, ◌++◌, length, is_some, Some, None, Option, Result, sym, refl, ap, ◌∙◌, arith}
 use Rattle.std.proofs.lemmas.List.{append_assoc, length-append}
 use Rattle.std.specs.List.{slice_get}
+use Rattle.std.specs.Int.{from_bool}
 use Rattle.trace.specs.Cells.{Lawful}
 use Rattle.pattern.specs.Patterns.{shortest, longest}
 use Rattle.pattern.specs.Images.{images_of}
@@ -21,7 +22,7 @@ use Rattle.reading.specs.declared.states.Search.{Search}
 use Rattle.reading.specs.Cells.{letters_in}
 use Rattle.reading.specs.Hits.{placed, count_of, hits_in}
 use Rattle.reading.specs.Spots.{conf_of}
-use Rattle.reading.specs.Standing.{Reached, begun, asked, Standing}
+use Rattle.reading.specs.Standing.{Reached, begun, asked, Standing, Thrifty}
 use Rattle.reading.proofs.Looking.{length_letters, all_letters}
 
 -- before any answer
@@ -40,6 +41,11 @@ takes_first (Some h) hs hs' t = rw t
 nth_after : (hs rest : List Place) → slice_get (hs ++ rest) (length hs) ≡ slice_get rest 0
 nth_after [] rest = refl
 nth_after (h ∷ hs) rest = nth_after hs rest
+
+-- as the code counts
+pub counts_one : (r : Option Hit) → from_bool (is_some r) ≡ count_of r
+counts_one None = refl
+counts_one (Some h) = refl
 
 pub count_more : (answers : List (Option Place)) (r : Option Hit) → length (hits_in (placed r ∷ answers)) ≡ length (hits_in answers) + count_of r
 count_more answers None = omega arith
@@ -83,7 +89,7 @@ module _ {T D : Type 0} {K : ℕ} {row : List (Result ℕ D)} (s : Search T) (l 
   hit_is r k n =
       rw stands.counted (answers_next _ _ _ (search_is_complete_lem.complete _ _ _ _ (well s.reading.plan) s.reading.right lettered) stands.reached n)
 
-  pub thrift_is : 0 < length (patterns_of s.reading.plan) → shortest (patterns_of s.reading.plan) ≤ length row → s.at.fetches ≤ (length row - shortest (patterns_of s.reading.plan) + 1) * (longest (patterns_of s.reading.plan) + 1)
+  pub thrift_is : Thrifty (length row) (patterns_of s.reading.plan) s.at.fetches
   thrift_is lines long = rw (length_letters row) at (go answers (conf_of s.at) stands.reached)
     where
       go : (answers : List (Option Place)) (k : Conf) → Reached (automaton_of s.reading.sheet) (shortest (patterns_of s.reading.plan)) (letters_in row) answers k → k.fetches ≤ (length (letters_in row) - shortest (patterns_of s.reading.plan) + 1) * (longest (patterns_of s.reading.plan) + 1)

@@ -1,6 +1,7 @@
 -- The plan and the sheet that a reading is set up with.
 use Rattle.std.proofs.Common.{◌≡◌, ℕ, zero, suc, ◌≤◌, Bool, true, false, cond, ◌&&◌, leb, List, [], get_or, replicate, None, Ok, Err, Result, refl, ap, arith}
 use Rattle.std.proofs.lemmas.Bool.{le-leb}
+use Rattle.std.specs.Result.{IsOk}
 use Rattle.pattern.specs.Patterns.{shortest}
 use Rattle.pattern.specs.Images.{images_of}
 use Rattle.automaton.specs.Wrong.{NoWrong}
@@ -13,18 +14,20 @@ use Rattle.sheet.specs.Tables.{Table, single, arrow_from, arrow_of, entry_at}
 use Rattle.sheet.specs.Files.{ask, is_counted}
 use Rattle.sheet.specs.Views.{table_of, automaton_in, automaton_of}
 
-pub never_refused : {E : Type 0} (K : ℕ) (x y : E) → 1 ≤ K → K ≤ 32 → ◌≡◌ {A = Result (List (List ℕ)) E} (Err x) (cond (leb 1 K && leb K 32) (Ok []) (Err y)) → ⊥
-never_refused {E} K x y h g e = clash (rw (le-leb 1 K h, le-leb K 32 g) at e)
+-- 1 to 32 letters are never refused by the plan without patterns
+pub always_planned : {P E : Type 0} (planned : Result P E → Result (List (List ℕ)) E) → ((x : E) → planned (Err x) ≡ Err x) → (K : ℕ) (r : Result P E) (y : E) → planned r ≡ cond (leb 1 K && leb K 32) (Ok []) (Err y) → 1 ≤ K → K ≤ 32 → IsOk r
+always_planned {P} {E} planned refused K r y e h g = go r (rw (le-leb 1 K h, le-leb K 32 g) at e)
   where
-    clash : ◌≡◌ {A = Result (List (List ℕ)) E} (Err x) (Ok []) → ⊥
-    clash f = let z : ◌≡◌ {A = ℕ} 0 1 = cc in omega arith
+    go : (r : Result P E) → planned r ≡ Ok [] → IsOk r
+    go (Ok plan) f = grind arith
+    go (Err x) f = let z = refused x in absurd cc
 
 pub single_table : (K : ℕ) (t : Table) → ask (is_counted 1 K) Counts (Ok (single K 0)) ≡ Ok t → t ≡ single K 0
 single_table K t = go (is_counted 1 K)
   where
     go : (b : Bool) → ask b Counts (Ok (single K 0)) ≡ Ok t → t ≡ single K 0
     go true e = cc
-    go false e = absurd (let z : ◌≡◌ {A = ℕ} 0 1 = cc in omega arith)
+    go false e = absurd cc
 
 get_d_same : {A : Type 0} (n i : ℕ) (a : A) → get_or (replicate n a) i a ≡ a
 get_d_same zero i a = refl

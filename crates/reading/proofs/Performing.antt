@@ -1,15 +1,10 @@
 -- Calls made in turn: one call more, and the first of all.
-use Rattle.std.proofs.Common.{◌≡◌, ℕ, true, List, [], ◌∷◌, ◌++◌, length, is_err, IfOk, Ok, Err, Result, sym, refl, ap, ◌∙◌, subst, arith}
+use Rattle.std.proofs.Common.{◌≡◌, ℕ, List, [], ◌∷◌, ◌++◌, length, Result, sym, refl, ap, ◌∙◌, subst, arith}
 use Rattle.std.proofs.lemmas.List.{append_assoc, append-nil}
-use Rattle.plan.specs.Views.{letters_of, patterns_of}
-use Rattle.sheet.specs.Tables.{Table, single}
-use Rattle.sheet.specs.Views.{table_of, automaton_in}
 use Rattle.reading.specs.declared.calls.Call.{Call}
 use Rattle.reading.specs.declared.calls.Answer.{Answer}
-use Rattle.reading.specs.declared.states.Reading.{Reading}
 use Rattle.reading.specs.declared.sessions.Session.{Session}
-use Rattle.reading.specs.declared.sessions.Session.TheVariants.{Idle}
-use Rattle.reading.specs.Histories.{History, Order, blank, Kept, history_after}
+use Rattle.reading.specs.Histories.{History, Kept, history_after}
 use Rattle.reading.specs.Promise.{Performed}
 use Rattle.reading.proofs.Promising.{promised}
 use Rattle.reading.specs.Sessions.{trace_of, Agrees, Promised, Continues}
@@ -21,9 +16,6 @@ history_more before (d ∷ calls) [] c a e = absurd (omega arith)
 history_more before (d ∷ calls) (b ∷ given) c a e = history_more ((d, b) ∷ before) calls given c a (omega arith)
 
 module _ {T D : Type 0} (K : ℕ) (row : List (Result ℕ D)) where
-  pub continues_none : (s : Session T) (given : List (Answer D)) → Continues K row s [] given s
-  continues_none s given h a = record { kept = λ k. k; stands = a }
-
   pub continues_more : (s s₁ s₂ : Session T) (calls : List Call) (given given' : List (Answer D)) (c : Call) (a : Answer D) → length given ≡ length calls → given' ≡ given ++ a ∷ [] → Continues K row s calls given s₁ → Promised K row s₁ c a s₂ → Continues K row s (calls ++ c ∷ []) given' s₂
   continues_more s s₁ s₂ calls given given' c a n e so p h ag =
       let i = so h ag in
@@ -46,21 +38,9 @@ pub came_all : (came left all : List Call) → came ++ left ≡ all → length l
 came_all came [] all e n = sym (append-nil came) ∙ e
 came_all came (c ∷ left) all e n = absurd (omega arith)
 
--- the fresh reading
-blank_is : (K : ℕ) (plan : List (List ℕ)) (t : Table) → plan ≡ [] → t ≡ single K 0 → ◌≡◌ {A = Order} (blank K) (record { plan = plan; sheet = automaton_in t })
-blank_is K plan t e f = rw (e, f)
-
-pub fresh_agrees : {T D : Type 0} (K : ℕ) (row : List (Result ℕ D)) (r : Reading T) → letters_of r.plan ≡ K → patterns_of r.plan ≡ [] → table_of r.sheet ≡ single K 0 → Agrees K row [] (Idle r)
-fresh_agrees K row r e f g = record { shut = refl; holds = blank_is K (patterns_of r.plan) (table_of r.sheet) f g; lettered = e }
-
 pub performed : {T D : Type 0} (K : ℕ) (row : T → List (Result ℕ D)) (trace : T) (s s' : Session T) (calls : List Call) (given : List (Answer D)) → trace_of s ≡ trace → Agrees K (row trace) [] s → length given ≡ length calls → Continues K (row (trace_of s)) s calls given s' → Performed K (row trace) calls given
 performed {T} {D} K row trace s s' calls given is fresh all so =
     record { all = all; kept = kept; promise = promised K (row trace) (history_after [] calls given) kept }
   where
     kept : Kept K (row trace) (history_after [] calls given)
     kept = (subst (λ (t : T). Continues K (row t) s calls given s') is so [] fresh).kept tt
-
--- nothing was made
-pub not_made : {X Y : Type 0} (r : Result X Y) (P : X → Type 0) → is_err r ≡ true → IfOk r P
-not_made (Ok x) P e = absurd (let z : ◌≡◌ {A = ℕ} 0 1 = cc in omega arith)
-not_made (Err y) P e = tt

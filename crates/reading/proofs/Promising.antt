@@ -1,10 +1,10 @@
 -- The law gives the promise.
-use Rattle.std.proofs.Common.{◌≡◌, ℕ, zero, suc, ◌≤◌, Bool, true, false, ◌⊎◌, ◌↔◌, List, [], ◌∷◌, ◌++◌, length, take, Some, None, Ok, Err, vec_items, Option, Result, sym, refl, ap, ◌∙◌, subst, inl, inr, arith, length-append}
+use Rattle.std.proofs.Common.{◌≡◌, ℕ, suc, ◌≤◌, Bool, true, false, ◌⊎◌, ◌↔◌, List, [], ◌∷◌, ◌++◌, length, take, Some, None, Ok, Err, vec_items, Option, Result, sym, refl, ap, ◌∙◌, subst, inl, inr, arith, length-append}
 use Rattle.std.proofs.lemmas.List.{take_all}
-use Rattle.std.proofs.lemmas.Option.{slice_get_past}
+use Rattle.std.proofs.lemmas.Option.{slice_get_past, slice_get_within, slice_get_cases, get_or_from_slice_get}
+use Rattle.std.proofs.Math.Seq.{take-suc}
 use Rattle.std.specs.List.{slice_get}
 use Rattle.pattern.specs.Rows.{Hit as Place}
-use Rattle.automaton.proofs.Automata.{some_inj, none_some}
 use Rattle.plan.specs.declared.Plan.{Plan}
 use Rattle.plan.specs.Views.{letters_of}
 use Rattle.sheet.specs.declared.Sheet.{Sheet}
@@ -21,7 +21,6 @@ use Rattle.reading.specs.declared.refusals.AdmitRefusal.TheVariants.{Alphabet}
 use Rattle.reading.specs.declared.refusals.AdmitRefusal.TheVariants.{Sheet as AboutSheet}
 use Rattle.reading.specs.declared.calls.Call.{Call}
 use Rattle.reading.specs.declared.calls.Call.TheVariants.{Draw, Admit, Inspect, Begin, Next, Report, Close}
-use Rattle.reading.specs.declared.calls.Answer.{Answer}
 use Rattle.reading.specs.declared.calls.Answer.TheVariants.{Drawn, Judged, Cell, Begun, Found, Told, Closed, OutOfTurn}
 use Rattle.reading.specs.Cells.{letters_in}
 use Rattle.reading.specs.Hits.{place_of, placed, hits_in}
@@ -32,96 +31,48 @@ use Rattle.reading.specs.Promise.{full_list, Admission, Promise, AfterEach}
 -- ---- places of a list
 
 take_nth : {X : Type 0} (xs : List X) (n : ℕ) (x : X) → slice_get xs n ≡ Some x → take (suc n) xs ≡ take n xs ++ x ∷ []
-take_nth [] n x e = absurd (none_some e)
-take_nth (y ∷ ys) zero x e = ap (λ z. z ∷ []) (some_inj e)
-take_nth (y ∷ ys) (suc n) x e = ap (λ zs. y ∷ zs) (take_nth ys n x e)
+take_nth xs n x e = take-suc xs n x (slice_get_within xs n x e) ∙ ap (λ y. take n xs ++ y ∷ []) (get_or_from_slice_get xs n x x e)
 
 nth_none : {X : Type 0} (xs : List X) (n : ℕ) → slice_get xs n ≡ None → length xs ≤ n
-nth_none [] n e = omega arith
-nth_none (y ∷ ys) zero e = absurd (none_some (sym e))
-nth_none (y ∷ ys) (suc n) e = omega (arith, nth_none ys n e)
-
--- ---- the kinds of answers
-
-abbrev kind_of : {D : Type 0} → Answer D → ℕ
-kind_of (Drawn x m) = 0
-kind_of (Judged v m w) = 1
-kind_of (Cell x) = 2
-kind_of Begun = 3
-kind_of (Found x) = 4
-kind_of (Told r) = 5
-kind_of Closed = 6
-kind_of (OutOfTurn c) = 7
-
-abbrev found_in : {D : Type 0} → Answer D → Option Hit
-found_in (Drawn x m) = None
-found_in (Judged v m w) = None
-found_in (Cell x) = None
-found_in Begun = None
-found_in (Found x) = x
-found_in (Told r) = None
-found_in Closed = None
-found_in (OutOfTurn c) = None
-
-abbrev told_in : {D : Type 0} → Account → Answer D → Account
-told_in d (Drawn x m) = d
-told_in d (Judged v m w) = d
-told_in d (Cell x) = d
-told_in d Begun = d
-told_in d (Found x) = d
-told_in d (Told r) = r
-told_in d Closed = d
-told_in d (OutOfTurn c) = d
-
-abbrev Outcome : Type 0
-Outcome = Result (Unit {0}) AdmitRefusal × Buffer × Buffer
-
-abbrev judged_in : {D : Type 0} → Outcome → Answer D → Outcome
-judged_in d (Drawn x m) = d
-judged_in d (Judged v m w) = (v, m, w)
-judged_in d (Cell x) = d
-judged_in d Begun = d
-judged_in d (Found x) = d
-judged_in d (Told r) = d
-judged_in d Closed = d
-judged_in d (OutOfTurn c) = d
-
-abbrev drawn_in : {D : Type 0} → Result Sheet DrawError × Buffer → Answer D → Result Sheet DrawError × Buffer
-drawn_in d (Drawn x m) = (x, m)
-drawn_in d (Judged v m w) = d
-drawn_in d (Cell x) = d
-drawn_in d Begun = d
-drawn_in d (Found x) = d
-drawn_in d (Told r) = d
-drawn_in d Closed = d
-drawn_in d (OutOfTurn c) = d
+nth_none xs n e =
+    elim (slice_get_cases xs n).1 [
+      | inl within ↦ absurd (cc (within.2, e))
+      | inr past ↦ past.0
+    ]
 
 module _ {D : Type 0} (K : ℕ) (row : List (Result ℕ D)) where
   -- ---- what is due, by the kind of the answer
 
   found_in_turn : (before : History D) (c : Call) (x : Option Hit) → DueInTurn K row before c (Found x) → Follows (searched K before) (letters_in row) (answers before) x
-  found_in_turn before (Draw plan m) x d = absurd (let z : ◌≡◌ {A = ℕ} 4 0 = ap kind_of d.is in omega arith)
-  found_in_turn before (Admit plan sheet m w) x d = absurd (let z : ◌≡◌ {A = ℕ} 4 1 = ap kind_of d.is in omega arith)
-  found_in_turn before (Inspect i) x d = absurd (let z : ◌≡◌ {A = ℕ} 4 2 = ap kind_of d in omega arith)
-  found_in_turn before Begin x d = absurd (let z : ◌≡◌ {A = ℕ} 4 3 = ap kind_of d in omega arith)
-  found_in_turn before Next x d = subst (Follows (searched K before) (letters_in row) (answers before)) (sym (ap found_in d.is)) d.due
-  found_in_turn before Report x d = absurd (let z : ◌≡◌ {A = ℕ} 4 5 = ap kind_of d.is in omega arith)
-  found_in_turn before Close x d = absurd (let z : ◌≡◌ {A = ℕ} 4 6 = ap kind_of d in omega arith)
+  found_in_turn before (Draw plan m) x d = absurd (cc d.is)
+  found_in_turn before (Admit plan sheet m w) x d = absurd (cc d.is)
+  found_in_turn before (Inspect i) x d = absurd cc
+  found_in_turn before Begin x d = absurd cc
+  found_in_turn before Next x d = subst (Follows (searched K before) (letters_in row) (answers before)) (let e : d.held ≡ x = cc d.is in e) d.due
+  found_in_turn before Report x d = absurd (cc d.is)
+  found_in_turn before Close x d = absurd cc
 
   found_due : (b : Bool) (before : History D) (c : Call) (x : Option Hit) → DueIf b K row before c (Found x) → Follows (searched K before) (letters_in row) (answers before) x
   found_due true before c x d = found_in_turn before c x d
-  found_due false before c x d = absurd (let z : ◌≡◌ {A = ℕ} 4 7 = ap kind_of d in omega arith)
+  found_due false before c x d = absurd cc
 
   told_due : (b : Bool) (before : History D) (r : Account) → DueIf b K row before Report (Told r) → Accounts (searched K before) (letters_in row) (answers before) r
-  told_due true before r d = subst (Accounts (searched K before) (letters_in row) (answers before)) (sym (ap (told_in r) d.is)) d.due
-  told_due false before r d = absurd (let z : ◌≡◌ {A = ℕ} 5 7 = ap kind_of d in omega arith)
+  told_due true before r d = subst (Accounts (searched K before) (letters_in row) (answers before)) (let e : d.held ≡ r = cc d.is in e) d.due
+  told_due false before r d = absurd cc
 
   drawn_due : (before : History D) (plan : Plan) (m m' : Buffer) (x : Result Sheet DrawError) → Due K row before (Draw plan m) (Drawn x m') → Draws plan (vec_items m) (vec_items m') x
-  drawn_due before plan m m' x d = subst (λ (y : Result Sheet DrawError × Buffer). Draws plan (vec_items m) (vec_items y.1) y.0) (sym (ap (drawn_in (x, m')) d.is)) d.due
+  drawn_due before plan m m' x d =
+      let e : d.held.0 ≡ x = cc d.is in
+      let f : d.held.1 ≡ m' = cc d.is in
+      rw (e, f) at d.due
 
   judged_due : (b : Bool) (before : History D) (a : Admission) → DueIf b K row before (Admit a.plan a.sheet a.memory a.word) (Judged a.verdict a.memory' a.word') → Verdict K a.plan a.sheet (vec_items a.memory) (vec_items a.word) (vec_items a.memory') (vec_items a.word') a.verdict
-  judged_due true before a d = subst (λ (y : Outcome). Verdict K a.plan a.sheet (vec_items a.memory) (vec_items a.word) (vec_items y.1) (vec_items y.2) y.0) (sym (ap (judged_in (a.verdict, a.memory', a.word')) d.is)) d.due
-  judged_due false before a d = absurd (let z : ◌≡◌ {A = ℕ} 1 7 = ap kind_of d in omega arith)
+  judged_due true before a d =
+      let e : d.held.0 ≡ a.verdict = cc d.is in
+      let f : d.held.1 ≡ a.memory' = cc d.is in
+      let h : d.held.2 ≡ a.word' = cc d.is in
+      rw (e, f, h) at d.due
+  judged_due false before a d = absurd cc
 
   -- ---- the hits
 
@@ -147,7 +98,7 @@ module _ {D : Type 0} (K : ℕ) (row : List (Result ℕ D)) where
   at_the_end : (hits all : List Place) (x : Option Hit) → hits ≡ take (length hits) all → placed x ≡ slice_get all (length hits) → (x ≡ None) ↔ (hits ≡ all)
   at_the_end hits all None f g = (λ e. f ∙ take_all (length hits) all (nth_none all (length hits) (sym g)), λ e. refl)
   at_the_end hits all (Some h) f g =
-      (λ e. absurd (none_some (sym e)), λ e. absurd (none_some (sym (slice_get_past all (length hits) (let l : length hits ≡ length all = ap length e in omega arith)) ∙ sym g)))
+      (λ e. absurd cc, λ e. absurd (cc (slice_get_past all (length hits) (let l : length hits ≡ length all = ap length e in omega arith), g)))
 
   -- ---- the other parts
 

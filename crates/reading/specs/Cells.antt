@@ -1,6 +1,6 @@
 -- What a search and an inspection see of a row.
 --   letter_in, letters_in   the letters of a row, none where a cell is damaged: all that a search sees of it
---   paired, numbered        a trace's answer, with the number of the cell beside its fault: as a pair, and in one value
+--   numbered                a trace's answer, with the number of the cell beside its fault
 --   inspected               what inspecting a cell answers
 use Rattle.std.specs.Prelude.{ℕ, List, [], ◌∷◌, Some, None, Ok, Err, Option, Result}
 use Rattle.trace.specs.declared.fault.Fault.{Fault}
@@ -18,10 +18,6 @@ letters_in (x ∷ xs) = letter_in x ∷ letters_in xs
 abbrev pub numbered : {D : Type 0} → ℕ → Result ℕ (Fault D) → Result ℕ (CellFault D)
 numbered i (Ok a) = Ok a
 numbered i (Err f) = Err (record { cell = i; fault = f })
-
-abbrev pub paired : {D : Type 0} → ℕ → Result ℕ (Fault D) → Result ℕ (ℕ × Fault D)
-paired i (Ok a) = Ok a
-paired i (Err f) = Err (i, f)
 
 abbrev pub inspected : {D : Type 0} → List (Result ℕ D) → ℕ → Result ℕ (CellFault D)
 inspected row i = numbered i (cell_at row i)

@@ -10,10 +10,10 @@
 --   Accounts             a report: the hits, the fetches and the first damaged cell of the search's steps, and that the fetches are few
 --   Due, Kept            what an event has to be after those before it; the law: each event of the history is due
 --   history_after        the history of calls that were made in this order, with their answers, after the events before them
-use Rattle.std.specs.Prelude.{◌≡◌, ℕ, ◌+◌, ◌-◌, ◌*◌, ◌<◌, ◌≤◌, Bool, true, false, not, List, [], ◌∷◌, length, Ok, Err, vec_items, Option, Result, Vec}
+use Rattle.std.specs.Prelude.{◌≡◌, ℕ, ◌≤◌, Bool, true, false, not, List, [], ◌∷◌, length, Ok, Err, vec_items, Option, Result, Vec}
 use Rattle.std.specs.List.{slice_get}
 use Rattle.std.specs.declared.alloc.Global.{Global}
-use Rattle.pattern.specs.Patterns.{shortest, longest}
+use Rattle.pattern.specs.Patterns.{shortest}
 use Rattle.pattern.specs.Images.{images_of}
 use Rattle.pattern.specs.Rows.{full}
 use Rattle.pattern.specs.Rows.{Hit as Place}
@@ -37,7 +37,7 @@ use Rattle.reading.specs.declared.calls.Answer.{Answer}
 use Rattle.reading.specs.declared.calls.Answer.TheVariants.{Drawn, Judged, Cell, Begun, Found, Told, Closed, OutOfTurn}
 use Rattle.reading.specs.Cells.{letters_in, inspected}
 use Rattle.reading.specs.Hits.{placed, hits_in}
-use Rattle.reading.specs.Standing.{Reached}
+use Rattle.reading.specs.Standing.{Reached, Thrifty}
 use Rattle.reading.specs.Admission.{Admitted}
 
 abbrev pub Event : Type 0 → Type 0
@@ -140,7 +140,7 @@ pub record Accounts (by : Order) (row : List (Option ℕ)) (before : List (Optio
   pub reached : Reached by.sheet (shortest by.plan) row before at
   pub fetched : r.fetches ≡ at.fetches
   pub damaged : r.damaged ≡ at.damaged
-  pub thrift : 0 < length by.plan → shortest by.plan ≤ length row → r.fetches ≤ (length row - shortest by.plan + 1) * (longest by.plan + 1)
+  pub thrift : Thrifty (length row) by.plan r.fetches
 
 -- the answer is of a kind, and what it holds is as it should be
 pub record Of {D X : Type 0} (kind : X → Answer D) (Should : X → Type 0) (a : Answer D) : Type 0 where

@@ -4,6 +4,7 @@
 --   Agrees        the session has come about by the history
 --   Promised      whatever history the session before the call has come about by, the answer is due after it, and the session
 --                 after the call has come about by the longer history
+--   Made          a call was made: what is read is the same, and what is promised of the call holds
 --   Continues     the same for a list of calls
 use Rattle.std.specs.Prelude.{◌≡◌, ℕ, Bool, true, false, List, ◌∷◌, Option, Result}
 use Rattle.pattern.specs.Rows.{Hit as Place}
@@ -38,6 +39,11 @@ Agrees K row before (Searching s) = Runs K row (begun before) (admitted K before
 
 abbrev pub Promised : {T D : Type 0} → ℕ → List (Result ℕ D) → Session T → Call → Answer D → Session T → Type 0
 Promised {T} {D} K row session c a after = (h : History D) → Agrees K row h session → Due K row h c a × Agrees K row ((c, a) ∷ h) after
+
+-- what a call comes to, in a session over a trace of K letters with this row: the session after it, and its answer
+pub record Made {T D : Type 0} (K : ℕ) (row : T → List (Result ℕ D)) (session : Session T) (c : Call) (x : Session T × Answer D) : Type 0 where
+  pub kept : trace_of x.0 ≡ trace_of session
+  pub law : Promised K (row (trace_of session)) session c x.1 x.0
 
 pub record Continued {T D : Type 0} (K : ℕ) (row : List (Result ℕ D)) (before : History D) (calls : List Call) (given : List (Answer D)) (after : Session T) : Type 0 where
   pub kept : Kept K row before → Kept K row (history_after before calls given)

@@ -10,7 +10,7 @@ pub struct CellFault<D> {
     pub fault: Fault<D>,
 }
 
-// A fault with the number of its cell: this is the `From` of the `?` by which an inspection carries it up.
+// A fault with the number of its cell: by this `From` an inspection carries it up; a derived one would have no contract.
 impl<D> From<(usize, Fault<D>)> for CellFault<D> {
     ghost from_gives = { λ x y. y ≡ record { cell = x.0; fault = x.1 } };
 

@@ -1,11 +1,12 @@
 //! Why a plan and a sheet are not admitted.
 ghost use Rattle.std.specs.Prelude.{◌≡◌};
 ghost use Rattle.reading.specs.Admission.{number_of};
+ghost use Rattle.reading.specs.declared.refusals.AdmitRefusal.TheVariants.{Sheet as AboutSheet};
 
 use judge::JudgeRefusal;
 
 /// The question about a plan and a sheet that was answered by no.
-#[derive(Clone, Copy)]
+#[derive(Clone, Copy, Debug, PartialEq, Eq)]
 pub enum AdmitRefusal {
     /// Has the plan the trace's letters?
     Alphabet,
@@ -13,8 +14,18 @@ pub enum AdmitRefusal {
     Sheet(JudgeRefusal),
 }
 
+// By this `From` an admission carries a judge's refusal up; a derived one would have no contract.
+impl From<JudgeRefusal> for AdmitRefusal {
+    ghost from_gives = { λ e r. r ≡ AboutSheet e };
+
+    fn from(question: JudgeRefusal) -> AdmitRefusal {
+        AdmitRefusal::Sheet(question)
+    }
+}
+
 impl AdmitRefusal {
     /// The number of the refusal.
+    // The questions about a sheet have numbers of their own, so these are no discriminants.
     pub fn number(self) -> u8
         ensures answer { result ≡ number_of self }
     {

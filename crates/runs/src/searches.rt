@@ -4,6 +4,7 @@ use logs::cause::SignDamage;
 use logs::sign_log::SignLog;
 use plan::Plan;
 use reading::{Answer, Call, Hit, Reading, perform};
+use sheet::Sheet;
 use std::alloc::Global;
 use std::test::Fail;
 
@@ -19,13 +20,19 @@ const SECOND: Hit = Hit {
     marks: 1,
 };
 
+// The plan of ABA and its sheet, and the memory that it was drawn in, which was full of this word.
+fn drawn(heap: Global, full: u64) -> Result<(Plan, Sheet, Vec<u64>), Fail> {
+    let plan = Plan::read(26, b"ABA\n")?;
+    let mut memory: Vec<u64> = vec![in heap; full; DRAW_WORDS]?;
+    let sheet = draw(heap, &plan, memory.as_mut_slice())?;
+    Ok((plan, sheet, memory))
+}
+
 #[test]
 fn a_search(rt: HostRuntime) -> Result<(), Fail> {
     let heap = rt.alloc();
-    let plan = Plan::read(26, b"ABA\n")?;
-    let mut memory: Vec<u64> = vec![in heap; 7; DRAW_WORDS]?;
+    let (plan, sheet, mut memory) = drawn(heap, 7)?;
     let mut word: Vec<u8> = vec![in heap; 9; WORD_BYTES]?;
-    let sheet = draw(heap, &plan, memory.as_mut_slice())?;
     let mut reading = Reading::new(heap, SignLog::open(b"XABABA")?)?;
     let admitted = reading.admit(plan, sheet, memory.as_mut_slice(), word.as_mut_slice());
     assert!(rt; admitted.is_ok());
@@ -40,9 +47,7 @@ fn a_search(rt: HostRuntime) -> Result<(), Fail> {
 
 // The sheet of ABA is drawn, and is to be admitted.
 fn admission(heap: Global) -> Result<Call, Fail> {
-    let plan = Plan::read(26, b"ABA\n")?;
-    let mut memory: Vec<u64> = vec![in heap; 0; DRAW_WORDS]?;
-    let sheet = draw(heap, &plan, memory.as_mut_slice())?;
+    let (plan, sheet, memory) = drawn(heap, 0)?;
     Ok(Call::Admit {
         plan,
         sheet,
@@ -61,20 +66,16 @@ fn hit_in(answer: &Answer<SignDamage>) -> Option<Hit> {
 #[test]
 fn a_list_of_calls(rt: HostRuntime) -> Result<(), Fail> {
     let heap = rt.alloc();
-    let mut calls: Vec<Call> = Vec::new(heap);
-    calls.push(admission(heap)?)?;
-    calls.push(Call::Begin)?;
-    calls.push(Call::Next)?;
-    calls.push(Call::Next)?;
-    calls.push(Call::Next)?;
+    let calls: Vec<Call> = vec![in heap;
+        admission(heap)?,
+        Call::Begin,
+        Call::Next,
+        Call::Next,
+        Call::Next,
+    ]?;
     let answers = perform(heap, SignLog::open(b"XABABA")?, calls)?;
     assert_eq!(rt; answers.len(), 5);
-    let mut hits: Vec<Hit> = Vec::new(heap);
-    for answer in &answers {
-        if let Some(hit) = hit_in(answer) {
-            hits.push(hit)?;
-        }
-    }
+    let hits: Vec<Hit> = answers.iter().filter_map(hit_in).collect(heap)?;
     assert!(rt; hits.as_slice() == [FIRST, SECOND].as_slice());
     Ok(())
 }

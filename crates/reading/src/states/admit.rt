@@ -1,5 +1,4 @@
 //! Admission: a reading takes a plan and a sheet for it, if the sheet has no wrong word.
-ghost use Rattle.std.specs.Prelude.{◌≡◌};
 ghost use Rattle.judge.specs.Memory.{Wiped};
 ghost use Rattle.reading.specs.Admission.{Admitted, Replaced};
 
@@ -13,6 +12,7 @@ use trace::interface::Trace;
 impl<T: Trace> Reading<T> {
     /// Puts the plan and the sheet in place of those that the reading holds, if the sheet has no wrong word for the plan and the
     /// memory suffices to tell; a refused sheet is used up. The memory is left all zeros.
+    // It is lent, and the word's buffer too, so that admitting allocates nothing.
     pub fn admit(
         &mut self,
         plan: Plan,
@@ -28,13 +28,9 @@ impl<T: Trace> Reading<T> {
             let _guard = Scratch { words: memory };
             return Err(AdmitRefusal::Alphabet);
         }
-        match judge(&plan, &sheet, memory, word) {
-            Ok(()) => {
-                self.plan = plan;
-                self.sheet = sheet;
-                Ok(())
-            }
-            Err(refusal) => Err(AdmitRefusal::Sheet(refusal)),
-        }
+        judge(&plan, &sheet, memory, word)?;
+        self.plan = plan;
+        self.sheet = sheet;
+        Ok(())
     }
 }

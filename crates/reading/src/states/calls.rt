@@ -1,22 +1,17 @@
 //! The calls on readings and searches, but for the search itself.
-ghost use Rattle.std.specs.Prelude.{◌≡◌, ◌+◌, ◌-◌, ◌*◌, ◌<◌, ◌≤◌, List, [], length, Option};
-ghost use Rattle.pattern.specs.Patterns.{shortest, longest};
+ghost use Rattle.std.specs.Prelude.{◌≡◌, List, length, Option};
 ghost use Rattle.pattern.specs.Rows.{Hit as Place};
-ghost use Rattle.automaton.specs.Search.{start};
-ghost use Rattle.plan.specs.Views.{letters_of, patterns_of};
-ghost use Rattle.trace.specs.Cells.{cell_at};
-ghost use Rattle.reading.specs.Cells.{paired, inspected};
-ghost use Rattle.reading.specs.Spots.{conf_of};
-ghost use Rattle.reading.specs.Standing.{Standing, Fresh};
+ghost use Rattle.plan.specs.Views.{patterns_of};
+ghost use Rattle.reading.specs.Cells.{inspected};
+ghost use Rattle.reading.specs.Standing.{Stands, Begins, Thrifty, Fresh};
 
 use crate::cell_fault::CellFault;
 use crate::hits::Report;
-use crate::spot::first_spot;
+use crate::spot::Spot;
 use crate::states::{Reading, Search};
 use plan::Plan;
-use sheet::Sheet;
+use sheet::{Sheet, SheetError};
 use std::alloc::{AllocError, Global};
-use trace::fault::Fault;
 use trace::interface::Trace;
 
 impl<T: Trace + Drop> Reading<T> {
@@ -25,42 +20,31 @@ impl<T: Trace + Drop> Reading<T> {
         ensures answer { Fresh T.Trace.alphabet trace result }
     {
         let letters = trace.letters();
-        let Ok(plan) = Plan::empty(letters) else {
-            unreachable()
-        };
+        let plan = Plan::empty(letters).unwrap();
+        // A sheet's error is more than want of memory, so no `From` turns it into that: here the rest of it is proved not to come.
         match Sheet::single(heap, letters, 0) {
             Ok(sheet) => Ok(Reading { trace, plan, sheet }),
-            Err(_) => Err(AllocError),
+            Err(SheetError::NoMemory) => Err(AllocError),
+            Err(SheetError::Refused(_)) => unreachable(),
         }
     }
 }
 
 impl<T: Trace> Reading<T> {
-    // The trace's answer, with the number of the cell beside its fault.
-    fn look(&self, i: usize) -> Result<u8, (usize, Fault<T::Damage>)>
-        ensures answer { result ≡ paired i (cell_at (T.Trace.row self.now.trace) i) }
-    {
-        match self.trace.cell(i) {
-            Ok(letter) => Ok(letter),
-            Err(fault) => Err((i, fault)),
-        }
-    }
-
     /// The letter of cell `i`, or the trace's fault together with the cell.
     pub fn inspect(&self, i: usize) -> Result<u8, CellFault<T::Damage>>
         ensures answer { result ≡ inspected (T.Trace.row self.now.trace) i }
     {
-        let letter = self.look(i)?;
+        let letter = self.trace.cell(i).map_err(|fault| (i, fault))?;
         Ok(letter)
     }
 
     /// Begins a search.
+    #[tactic(auto, using(crate::proofs::Answering::reached_start))]
     pub fn begin(self) -> Search<T>
-        ensures held { result.reading ≡ self }
-        ensures answer { (conf_of result.at ≡ start (shortest (patterns_of self.plan))) × (result.hits ≡ 0) }
-        ensures standing { letters_of self.plan ≡ T.Trace.alphabet → Standing T.Trace.alphabet (T.Trace.row self.trace) [] result }
+        ensures { Begins T.Trace.alphabet T.Trace.row self result }
     {
-        let at = first_spot(self.plan.shortest());
+        let at = Spot::first(self.plan.shortest());
         Search {
             reading: self,
             at,
@@ -80,7 +64,7 @@ impl<T: Trace> Search<T> {
     /// What the search has come to since it was begun.
     pub fn report(&self) -> Report
         ensures answer { result ≡ record { hits = self.now.hits; fetches = self.now.at.fetches; damaged = self.now.at.damaged } }
-        ensures thrift { (answers : List (Option Place)) → Standing T.Trace.alphabet (T.Trace.row self.now.reading.trace) answers self.now → 0 < length (patterns_of self.now.reading.plan) → shortest (patterns_of self.now.reading.plan) ≤ length (T.Trace.row self.now.reading.trace) → result.fetches ≤ (length (T.Trace.row self.now.reading.trace) - shortest (patterns_of self.now.reading.plan) + 1) * (longest (patterns_of self.now.reading.plan) + 1) }
+        ensures thrift { (answers : List (Option Place)) → Stands T.Trace.alphabet T.Trace.row answers self.now → Thrifty (length (T.Trace.row self.now.reading.trace)) (patterns_of self.now.reading.plan) result.fetches }
     {
         Report {
             hits: self.hits,
@@ -93,19 +77,13 @@ impl<T: Trace> Search<T> {
     pub fn close(self) -> Reading<T>
         ensures answer { result ≡ self.reading }
     {
-        let Search {
-            reading,
-            at: _,
-            hits: _,
-        } = self;
+        let Search { reading, .. } = self;
         reading
     }
 
     /// Ends the search and begins another.
     pub fn begin(self) -> Search<T>
-        ensures held { result.reading ≡ self.reading }
-        ensures answer { (conf_of result.at ≡ start (shortest (patterns_of self.reading.plan))) × (result.hits ≡ 0) }
-        ensures standing { letters_of self.reading.plan ≡ T.Trace.alphabet → Standing T.Trace.alphabet (T.Trace.row self.reading.trace) [] result }
+        ensures { Begins T.Trace.alphabet T.Trace.row self.reading result }
     {
         self.close().begin()
     }

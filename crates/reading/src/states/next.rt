@@ -1,17 +1,12 @@
 //! The search itself: `next` reads back from one place after the other, and jumps over cells that it need not read.
-ghost use Rattle.std.specs.Prelude.{◌≡◌, ◌+◌, ◌^◌, ◌<◌, List, ◌∷◌, length, Option};
-ghost use Rattle.std.specs.List.{slice_get};
-ghost use Rattle.pattern.specs.Patterns.{shortest};
-ghost use Rattle.pattern.specs.Images.{images_of};
-ghost use Rattle.pattern.specs.Rows.{full};
+ghost use Rattle.std.specs.Prelude.{◌≡◌, ◌+◌, ◌^◌, ◌<◌, List, ◌∷◌, Option};
 ghost use Rattle.pattern.specs.Rows.{Hit as Place};
-ghost use Rattle.automaton.specs.Search.{following, jumped, stepped, Next};
-ghost use Rattle.plan.specs.Views.{patterns_of};
+ghost use Rattle.automaton.specs.Search.{following, jumped, stepped};
 ghost use Rattle.sheet.specs.Views.{automaton_of};
 ghost use Rattle.reading.specs.Cells.{letters_in};
 ghost use Rattle.reading.specs.Hits.{placed, count_of};
-ghost use Rattle.reading.specs.Spots.{conf_of, looked, Roomy};
-ghost use Rattle.reading.specs.Standing.{Standing};
+ghost use Rattle.reading.specs.Spots.{conf_of, looked};
+ghost use Rattle.reading.specs.Standing.{Stands, Steps, hit_after};
 
 use crate::hits::Hit;
 use crate::spot::Spot;
@@ -22,8 +17,7 @@ use trace::interface::Trace;
 impl<T: Trace> Reading<T> {
     // Fetches the cell that comes next in reading back, unless the row's front was passed, and the state that it leads to.
     fn follow(&self, at: Spot) -> (Spot, Option<StateNumber>)
-        requires roomy { Roomy at }
-        requires inside { at.p < length (T.Trace.row self.now.trace) }
+        requires { at.fetches + 1 < 2 ^ 64 }
         ensures looked { conf_of result.0 ≡ looked (letters_in (T.Trace.row self.now.trace)) (conf_of at) }
         ensures answer { result.1 ≡ following (automaton_of self.now.sheet) (letters_in (T.Trace.row self.now.trace)) (conf_of at) }
     {
@@ -31,15 +25,15 @@ impl<T: Trace> Reading<T> {
             return (at, None);
         }
         let i = at.p - at.o;
-        let mut seen = at;
-        seen.fetches += 1;
+        let seen = Spot {
+            fetches: at.fetches + 1,
+            ..at
+        };
         match self.trace.cell(i) {
             Ok(letter) => (seen, self.sheet.follow(at.q, letter)),
             Err(_) => {
-                if seen.damaged.is_none() {
-                    seen.damaged = Some(i);
-                }
-                (seen, None)
+                let damaged = seen.damaged.or(Some(i));
+                (Spot { damaged, ..seen }, None)
             }
         }
     }
@@ -51,52 +45,35 @@ impl<T: Trace> Reading<T> {
     {
         let o = at.o + 1;
         let c = if self.sheet.is_prefix(q) { o } else { at.c };
+        Spot { o, q, c, ..at }
+    }
+}
+
+impl Spot {
+    // Past the places that the reading back has ruled out.
+    fn jump(self, least: u8) -> Spot
+        requires { self.p + 256 < 2 ^ 64 }
+        ensures answer { conf_of result ≡ jumped least (conf_of self) self.fetches self.damaged }
+    {
+        let by = (least as usize).saturating_sub(self.c).max(1);
         Spot {
-            p: at.p,
-            o,
-            q,
-            c,
-            fetches: at.fetches,
-            damaged: at.damaged,
+            p: self.p + by,
+            o: 0,
+            q: START,
+            c: 0,
+            ..self
         }
-    }
-}
-
-// Past the places that the reading back has ruled out.
-fn jump(at: Spot, least: u8) -> Spot
-    requires { at.p + 256 < 2 ^ 64 }
-    ensures answer { conf_of result ≡ jumped least (conf_of at) at.fetches at.damaged }
-{
-    let least = least as usize;
-    let by = if at.c < least { least - at.c } else { 1 };
-    Spot {
-        p: at.p + by,
-        o: 0,
-        q: START,
-        c: 0,
-        fetches: at.fetches,
-        damaged: at.damaged,
-    }
-}
-
-// How many hits an answer is.
-fn count_of(found: Option<Hit>) -> usize
-    ensures answer { result ≡ count_of found }
-{
-    match found {
-        None => 0,
-        Some(_) => 1,
     }
 }
 
 impl<T: Trace> Search<T> {
     /// The next hit, or none at the end. The following call goes on where this one left.
     pub fn next(&mut self) -> Option<Hit>
-        ensures answer { Next (automaton_of self.old.reading.sheet) (shortest (patterns_of self.old.reading.plan)) (letters_in (T.Trace.row self.old.reading.trace)) (conf_of self.old.at) (placed result) (conf_of self.new.at) }
+        ensures answer { Steps T.Trace.row self.old result self.new }
         ensures counted { self.new.hits ≡ self.old.hits + count_of result }
         ensures kept { self.new.reading ≡ self.old.reading }
-        ensures hit { (answers : List (Option Place)) → Standing T.Trace.alphabet (T.Trace.row self.old.reading.trace) answers self.old → placed result ≡ slice_get (full (images_of (patterns_of self.old.reading.plan)) (letters_in (T.Trace.row self.old.reading.trace))) self.old.hits }
-        ensures standing { (answers : List (Option Place)) → Standing T.Trace.alphabet (T.Trace.row self.old.reading.trace) answers self.old → Standing T.Trace.alphabet (T.Trace.row self.old.reading.trace) (placed result ∷ answers) self.new }
+        ensures hit { (answers : List (Option Place)) → Stands T.Trace.alphabet T.Trace.row answers self.old → placed result ≡ hit_after T.Trace.row self.old }
+        ensures standing { (answers : List (Option Place)) → Stands T.Trace.alphabet T.Trace.row answers self.old → Stands T.Trace.alphabet T.Trace.row (placed result ∷ answers) self.new }
     {
         let least = self.reading.plan.shortest();
         let len = self.reading.trace.len();
@@ -105,12 +82,14 @@ impl<T: Trace> Search<T> {
         }
         let mut at = self.at;
         let mut found = None;
+        // How far each loop goes is known only by reading, so neither is a chain: the inner one reads back from a place, the outer one
+        // goes from place to place, and a hit leaves both by the label.
         'places: while at.p < len {
             loop {
                 let (seen, to) = self.reading.follow(at);
                 match to {
                     None => {
-                        at = jump(seen, least);
+                        at = seen.jump(least);
                         break;
                     }
                     Some(q) => {
@@ -129,7 +108,7 @@ impl<T: Trace> Search<T> {
             }
         }
         self.at = at;
-        self.hits += count_of(found);
+        self.hits += usize::from(found.is_some());
         found
     }
 }

@@ -1,13 +1,14 @@
--- `make`: outside a search and inside one.
-use Rattle.reading.proofs.Turning.{known}
+-- `make`: drawing, with the memory that comes back.
+use Rattle.std.proofs.Common.{refl}
+use Rattle.reading.proofs.Lending.{drawn_back}
+use Rattle.reading.proofs.Turning.{of_call, drawn, made}
+use Rattle.reading.specs.Sessions.{trace_of}
 use Rattle.reading.proofs.sessions.Session.make.Goals as goal
 
-pub returns-in-Idle : goal.returns-in-Idle
-returns-in-Idle g c =
-    let d = known g.T.Trace.alphabet g.T.Trace.row _ _ _ _ _ c.in-Idle.is c.idle.ensures.kept c.idle.ensures.law in
-    record { kept = d.0; law = d.1 }
-
-pub returns-in-Searching : goal.returns-in-Searching
-returns-in-Searching g c =
-    let d = known g.T.Trace.alphabet g.T.Trace.row _ _ _ _ _ c.in-Searching.is c.searching.ensures.kept c.searching.ensures.law in
-    record { kept = d.0; law = d.1 }
+pub returns-in-Draw : goal.returns-in-Draw
+returns-in-Draw g c =
+    let K = g.T.Trace.alphabet in
+    let s = c.args.self in
+    let row = g.T.Trace.row (trace_of s) in
+    let m = c.as_mut_slice.ensures in
+    made K g.T.Trace.row s s _ _ _ refl refl (of_call K row _ _ _ _ _ c.in-Draw.is (drawn K row s c.in-Draw.plan c.in-Draw.memory _ c.draw-sheet.result (drawn_back _ _ _ _ _ _ _ m.value m.len c.draw-sheet.ensures.drawn)))

@@ -1,21 +1,16 @@
 -- `follow`: one cell more is looked at.
-use Rattle.std.proofs.Common.{◌≡◌, ◌-◌, ◌≤◌, Some, None, sym, ◌∙◌}
+use Rattle.std.proofs.Common.{◌≡◌, ℕ, ◌-◌, ◌≤◌, Some, None, Option, sym, ap, ◌∙◌}
 use Rattle.pattern.specs.Rows.{cell}
 use Rattle.automaton.proofs.Ticks.{following_front, following_damage, following_to}
 use Rattle.sheet.specs.Views.{automaton_of}
 use Rattle.reading.specs.Cells.{letters_in}
 use Rattle.reading.specs.Spots.{conf_of}
-use Rattle.reading.proofs.Looking.{read_letter, read_fault, looked_front, looked_letter, looked_first, looked_again}
+use Rattle.reading.proofs.Looking.{fetched, read_letter, read_fault, looked_letter, looked_fault}
 use Rattle.reading.proofs.states.Reading.follow.Goals as goal
 
-pub returns-then-at : goal.returns-then-at
-returns-then-at g c =
-    let s = c.args.at in
-    let row = letters_in (g.T.Trace.row c.args.self.now.trace) in
-    record {
-      looked = looked_front row s c.if-at.true;
-      answer = sym (following_front (automaton_of c.args.self.now.sheet) row (conf_of s) c.if-at.true);
-    }
+pub returns-then-at-clause-answer : goal.returns-then-at-clause-answer
+returns-then-at-clause-answer g c =
+    sym (following_front (automaton_of c.args.self.now.sheet) (letters_in (g.T.Trace.row c.args.self.now.trace)) (conf_of c.args.at) c.if-at.true)
 
 pub returns-in-Ok : goal.returns-in-Ok
 returns-in-Ok g c =
@@ -30,26 +25,14 @@ returns-in-Ok g c =
       answer = c.follow.ensures.answer ∙ sym (following_to (automaton_of c.args.self.now.sheet) row (conf_of s) a within at);
     }
 
-pub returns-then-is_none : goal.returns-then-is_none
-returns-then-is_none g c =
+pub returns-in-Err : goal.returns-in-Err
+returns-in-Err g c =
     let s = c.args.at in
     let cells = g.T.Trace.row c.args.self.now.trace in
     let row = letters_in cells in
     let within : s.o ≤ s.p = c.if-at.false in
     let at : cell row (s.p - s.o) ≡ None = read_fault cells (s.p - s.o) c.in-Err.field-0 (sym c.in-Err.ensures) in
     record {
-      looked = looked_first row s within at c.if-is_none.ensures;
-      answer = sym (following_damage (automaton_of c.args.self.now.sheet) row (conf_of s) within at);
-    }
-
-pub returns-else-is_none : goal.returns-else-is_none
-returns-else-is_none g c =
-    let s = c.args.at in
-    let cells = g.T.Trace.row c.args.self.now.trace in
-    let row = letters_in cells in
-    let within : s.o ≤ s.p = c.if-at.false in
-    let at : cell row (s.p - s.o) ≡ None = read_fault cells (s.p - s.o) c.in-Err.field-0 (sym c.in-Err.ensures) in
-    record {
-      looked = looked_again row s within c.if-is_none.ensures;
+      looked = ap (λ (d : Option ℕ). conf_of (fetched s d)) c.or-damaged.ensures ∙ looked_fault row s within at;
       answer = sym (following_damage (automaton_of c.args.self.now.sheet) row (conf_of s) within at);
     }

@@ -1,15 +1,17 @@
 -- `next`: each turn of the inner loop is a tick.
-use Rattle.std.proofs.Common.{None, sym, refl, ap, ◌∙◌, arith}
+use Rattle.std.proofs.Common.{◌≡◌, None, sym, refl, ap, ◌∙◌, arith}
+use Rattle.std.specs.Int.{from_bool}
 use Rattle.automaton.specs.Search.{Conf}
 use Rattle.sheet.specs.Views.{automaton_of}
 use Rattle.reading.specs.Cells.{letters_in}
+use Rattle.reading.specs.Hits.{count_of}
 use Rattle.reading.specs.Standing.{asked}
 use Rattle.reading.proofs.Looking.{length_letters}
-use Rattle.reading.proofs.Onwards.{onward_here, onward_trans, turn, Went, jump_went, step_room, step_went, step_found, Leaves, next_none, leaves_end, leaves_found, next_by}
-use Rattle.reading.proofs.Answering.{hit_is, count_more}
+use Rattle.reading.proofs.Onwards.{onward_here, onward_trans, Turn, turn, Went, jump_went, step_room, step_went, step_found, Leaves, next_none, leaves_end, leaves_found, next_by}
+use Rattle.reading.proofs.Answering.{hit_is, counts_one, count_more}
 use Rattle.reading.proofs.states.Search.next.Given as given
 use Rattle.reading.proofs.states.Search.next.Goals as goal
-use Rattle.reading.proofs.states.Search.next.Goals.{Left-places, else-places-test, then-places-test+in-Some+then-marks-ne0}
+use Rattle.reading.proofs.states.Search.next.Goals.{After-follow-to, Left-places, else-places-test, then-places-test+in-Some+then-marks-ne0}
 
 pub returns-then-least-eq0 : goal.returns-then-least-eq0
 returns-then-least-eq0 g c =
@@ -29,13 +31,14 @@ places-init g c = (refl, onward_here _ _ _ c.args.self.now.at c.args.self.now.ro
 pub loop-at-init : goal.loop-at-init
 loop-at-init g c = (omega arith, c.places.invariant.0, onward_here _ _ _ c.places.at c.places.invariant.1.roomy)
 
+-- a turn of the inner loop
+turned : (g : given.Over) (c : After-follow-to g) → Turn c.shortest-least.result (letters_in (g.T.Trace.row c.args.self.now.reading.trace)) c.loop-at.at c.follow-to.result.0
+turned g c =
+    turn (g.T.Trace.lawful c.args.self.now.reading.trace) _ _ c.loop-at.at c.follow-to.result.0 c.len-len.ensures c.loop-at.invariant.0 c.if-least-eq0.false c.shortest-least.type_inv c.loop-at.invariant.2.roomy c.follow-to.ensures.looked
+
 jumps : (g : given.Over) (c : goal.After-jump-at g) → Went (automaton_of c.args.self.now.reading.sheet) c.shortest-least.result (letters_in (g.T.Trace.row c.args.self.now.reading.trace)) c.loop-at.at c.jump-at.result
 jumps g c =
-    let l = g.T.Trace.lawful c.args.self.now.reading.trace in
-    jump_went _ _ _ c.loop-at.at c.follow-to.result.0 c.jump-at.result
-    (turn l _ _ c.loop-at.at c.follow-to.result.0 c.len-len.ensures c.loop-at.invariant.0 c.if-least-eq0.false c.shortest-least.type_inv c.loop-at.invariant.2.roomy c.follow-to.ensures.looked)
-    (sym c.in-None.is ∙ c.follow-to.ensures.answer)
-    c.jump-at.ensures.answer
+    jump_went _ _ _ c.loop-at.at c.follow-to.result.0 c.jump-at.result (turned g (goal.at.places-smaller g c).After-follow-to) (sym c.in-None.is ∙ c.follow-to.ensures.answer) c.jump-at.ensures.answer
 
 pub places-smaller : goal.places-smaller
 places-smaller g c = omega (arith, (jumps g c).less, c.loop-at.invariant.2.nearer)
@@ -45,13 +48,7 @@ places-preserved g c = (c.loop-at.invariant.1, onward_trans c.places.invariant.1
 
 steps : (g : given.Over) (c : goal.Else-marks-ne0 g) → Went (automaton_of c.args.self.now.reading.sheet) c.shortest-least.result (letters_in (g.T.Trace.row c.args.self.now.reading.trace)) c.loop-at.at c.step-at.result
 steps g c =
-    let l = g.T.Trace.lawful c.args.self.now.reading.trace in
-    step_went _ _ _ c.loop-at.at c.follow-to.result.0 c.step-at.result
-    (turn l _ _ c.loop-at.at c.follow-to.result.0 c.len-len.ensures c.loop-at.invariant.0 c.if-least-eq0.false c.shortest-least.type_inv c.loop-at.invariant.2.roomy c.follow-to.ensures.looked)
-    c.in-Some.q
-    (sym c.in-Some.is ∙ c.follow-to.ensures.answer)
-    c.step-at.ensures.answer
-    (sym c.marks-marks.ensures.answer ∙ c.if-marks-ne0.false)
+    step_went _ _ _ c.loop-at.at c.follow-to.result.0 c.step-at.result (turned g (goal.at.loop-at-smaller g c).After-follow-to) c.in-Some.q (sym c.in-Some.is ∙ c.follow-to.ensures.answer) c.step-at.ensures.answer (sym c.marks-marks.ensures.answer ∙ c.if-marks-ne0.false)
 
 pub loop-at-smaller : goal.loop-at-smaller
 loop-at-smaller g c = (steps g c).less
@@ -62,13 +59,7 @@ loop-at-preserved g c =
 
 pub overflow_sub-found : goal.overflow_sub-found
 overflow_sub-found g c =
-    let l = g.T.Trace.lawful c.args.self.now.reading.trace in
-    (step_room (automaton_of c.args.self.now.reading.sheet) _ _ c.loop-at.at c.follow-to.result.0 c.step-at.result
-    (turn l _ _ c.loop-at.at c.follow-to.result.0 c.len-len.ensures c.loop-at.invariant.0 c.if-least-eq0.false c.shortest-least.type_inv c.loop-at.invariant.2.roomy c.follow-to.ensures.looked)
-    c.in-Some.q
-    (sym c.in-Some.is ∙ c.follow-to.ensures.answer)
-    c.step-at.ensures.answer
-    ).roomy.0
+    (step_room (automaton_of c.args.self.now.reading.sheet) _ _ c.loop-at.at c.follow-to.result.0 c.step-at.result (turned g (goal.at.overflow_sub-found g c).After-follow-to) c.in-Some.q (sym c.in-Some.is ∙ c.follow-to.ensures.answer) c.step-at.ensures.answer).roomy.0
 
 -- what the loops leave, on both ways out
 leaves : (g : given.Over) (c : Left-places g) → Leaves (automaton_of c.args.self.now.reading.sheet) c.shortest-least.result (letters_in (g.T.Trace.row c.args.self.now.reading.trace)) c.args.self.now.at c.places-test.at c.places-test.found
@@ -89,17 +80,19 @@ leaves g c =
 pub invariant_of-self : goal.invariant_of-self
 invariant_of-self g c =
     let l = leaves g (goal.at.invariant_of-self g c).Left-places in
-    record { roomy = l.roomy; few = omega (arith, l.more, c.args.self.now.few, c.count_of.ensures.answer) }
+    let one : c.from.result ≡ count_of c.places-test.found = c.from.ensures ∙ ap from_bool c.is_some.ensures ∙ counts_one _ in
+    record { roomy = l.roomy; few = omega (arith, l.more, c.args.self.now.few, one) }
 
 pub returns : goal.returns
 returns g c =
     let me = c.args.self.now in
     let l = leaves g (goal.at.returns g c).Left-places in
     let n = next_by _ _ c.shortest-least.ensures.answer l.next in
+    let one : c.from.result ≡ count_of c.places-test.found = c.from.ensures ∙ ap from_bool c.is_some.ensures ∙ counts_one _ in
     record {
       answer = n;
-      counted = omega (arith, c.count_of.ensures.answer);
+      counted = omega (arith, one);
       kept = refl;
       hit = λ answers s. hit_is me (g.T.Trace.lawful me.reading.trace) s _ _ n;
-      standing = λ answers s. record { lettered = s.lettered; reached = asked s.reached n; counted = omega (arith, s.counted, c.count_of.ensures.answer, count_more answers c.places-test.found) };
+      standing = λ answers s. record { lettered = s.lettered; reached = asked s.reached n; counted = omega (arith, s.counted, one, count_more answers c.places-test.found) };
     }
