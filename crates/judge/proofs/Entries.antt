@@ -1,6 +1,7 @@
 -- A complete table of the drawing machine draws a sheet: each letter leads to an entry, and the states suffice.
 use Rattle.std.proofs.Common.{◌≡◌, ℕ, zero, suc, ◌/◌, ◌<◌, ◌≤◌, Bool, true, false, ◌⊎◌, List, [], ◌∷◌, length, Some, None, Ok, Err, Option, Result, sym, refl, ◌∙◌, subst, inl, inr, arith}
 use Rattle.std.proofs.lemmas.Bool.{cases_lt}
+use Rattle.std.specs.Result.{is_ok}
 use Rattle.pattern.specs.Fits.{Fitting, fitting}
 use Rattle.automaton.specs.Automata.{Automaton}
 use Rattle.automaton.specs.Machines.{Outcome, dead, wrong, to, run}
@@ -14,13 +15,17 @@ use Rattle.exploration.proofs.Drawing.{drawing_is_right_lem}
 use Rattle.plan.specs.declared.Plan.{Plan}
 use Rattle.plan.specs.Views.{letters_of, patterns_of}
 use Rattle.plan.proofs.Soundness.{sound}
-use Rattle.judge.specs.Exploring.{Completes, Fails, Overflows, Finds}
+use Rattle.judge.specs.Memory.{groups_in}
+use Rattle.judge.specs.Exploring.{Completes, Fails, Overflows, Explored}
+use Rattle.judge.specs.declared.explore.Stop.{Stop}
+use Rattle.judge.specs.declared.explore.Stop.TheVariants.{Faulty, Full}
+use Rattle.judge.specs.Tables.{Finds}
 use Rattle.judge.specs.Plots.{arrow_to, Inside}
 use Rattle.sheet.specs.declared.Sheet.{Sheet}
 use Rattle.judge.specs.declared.refusals.DrawRefusal.TheVariants.{Words, States}
 use Rattle.judge.specs.declared.refusals.DrawError.{DrawError}
 use Rattle.judge.specs.declared.refusals.DrawError.TheVariants.{Refused, NoMemory}
-use Rattle.judge.specs.Drawings.{StatesSuffice, HasWords, DrawnWith, DrawAnswers}
+use Rattle.judge.specs.Drawings.{StatesSuffice, HasWords, DrawnFor, DrawnWith, DrawAnswers, MadeUnlessMemory}
 
 -- no letter is a fault
 clash : ◌≡◌ {A = Outcome Node} dead wrong → ⊥
@@ -120,11 +125,10 @@ module _ (K : ℕ) (f : Fitting) (T : Table Node) (all : AllFound K (drawing f) 
       prefixed (suc k) z l = refl
 
 module _ (plan : Plan) {K : ℕ} {c : List ℕ} where
-  pub over : Overflows K (drawing (fitting (patterns_of plan))) c → K ≡ letters_of plan → length c ≡ 1020 → StatesSuffice plan → ⊥
-  over h e same =
+  over : Overflows K (drawing (fitting (patterns_of plan))) c → K ≡ letters_of plan → groups_in c ≡ 255 → StatesSuffice plan → ⊥
+  over h e n =
       let o = subst (λ (k : ℕ). Overflows k (drawing (fitting (patterns_of plan))) c) e h in
-      let n : length c / 4 ≡ 255 = omega arith in
-      rw (← n) ((drawing_is_right_lem (letters_of plan) (patterns_of plan) (sound plan).well).overflow (length c / 4) o.text o.more)
+      rw (← n) ((drawing_is_right_lem (letters_of plan) (patterns_of plan) (sound plan).well).overflow (groups_in c) o.text o.more)
 
   pub suffice : {size : ℕ} → Completes K (drawing (fitting (patterns_of plan))) c size → K ≡ letters_of plan → size ≤ 255 → StatesSuffice plan
   suffice {size} h e few =
@@ -137,9 +141,20 @@ module _ (plan : Plan) {K : ℕ} {c : List ℕ} where
         few = few;
       }
 
+-- where the exploration stops, it is for want of states
+pub stopped : (plan : Plan) (K : ℕ) (c : List ℕ) (size : ℕ) (r : Result (Unit {0}) Stop) → Explored K (drawing (fitting (patterns_of plan))) c size r → is_ok r ≡ false → K ≡ letters_of plan → groups_in c ≡ 255 → StatesSuffice plan → ⊥
+stopped plan K c size (Ok _) h f e n = cc
+stopped plan K c size (Err (Faulty i a)) h f e n = absurd (never_fails (fitting (patterns_of plan)) h)
+stopped plan K c size (Err Full) h f e n = over plan h e n
+
 -- with memory enough
 pub answered : (plan : Plan) (memory : List ℕ) (r : Result Sheet DrawError) → HasWords memory → DrawnWith plan r → DrawAnswers plan memory r
 answered plan memory (Ok sheet) h d = (h, d)
 answered plan memory (Err (Refused Words)) h d = absurd d
 answered plan memory (Err (Refused States)) h d = (h, d)
 answered plan memory (Err NoMemory) h d = (h, d)
+
+-- where want of memory is the only error
+pub made : (plan : Plan) (r : Result Sheet DrawError) → MadeUnlessMemory (DrawnFor plan) r → StatesSuffice plan → DrawnWith plan r
+made plan (Ok sheet) h s = h
+made plan (Err e) h s = rw h s

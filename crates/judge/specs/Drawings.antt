@@ -29,6 +29,11 @@ pub record DrawnFor (plan : Plan) (sheet : Sheet) : Type 0 where
   pub shortest : (table_of sheet).shortest ≡ shortest (patterns_of plan)
   pub drawn : Drawn (letters_of plan) (images_of (patterns_of plan)) (fitting (patterns_of plan)) (length (table_of sheet).states) (automaton_of sheet)
 
+-- a sheet of which P holds, unless memory for it is wanting
+abbrev pub MadeUnlessMemory : (Sheet → Type 0) → Result Sheet DrawError → Type 0
+MadeUnlessMemory P (Ok sheet) = P sheet
+MadeUnlessMemory P (Err e) = e ≡ NoMemory
+
 -- what is answered where the memory has its words
 abbrev pub DrawnWith : Plan → Result Sheet DrawError → Type 0
 DrawnWith plan (Ok sheet) = DrawnFor plan sheet

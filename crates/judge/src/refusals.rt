@@ -1,6 +1,9 @@
 //! Why a sheet is not accepted, or not drawn.
 ghost use Rattle.std.specs.Prelude.{◌≡◌};
 ghost use Rattle.judge.specs.Refusals.{number_of, draw_number_of};
+ghost use Rattle.judge.specs.declared.refusals.DrawError.TheVariants.{Refused as RefusedFor, NoMemory};
+
+use std::alloc::AllocError;
 
 /// The question about a sheet, for a plan, that was answered by no.
 #[derive(Clone, Copy, Debug, PartialEq, Eq)]
@@ -36,9 +39,9 @@ impl JudgeRefusal {
 #[derive(Clone, Copy, Debug, PartialEq, Eq)]
 pub enum DrawRefusal {
     /// Has the working memory 1,020 words?
-    Words,
+    Words = 20,
     /// Do 255 states suffice?
-    States,
+    States = 21,
 }
 
 impl DrawRefusal {
@@ -46,10 +49,7 @@ impl DrawRefusal {
     pub fn number(self) -> u8
         ensures answer { result ≡ draw_number_of self }
     {
-        match self {
-            DrawRefusal::Words => 20,
-            DrawRefusal::States => 21,
-        }
+        self as u8
     }
 }
 
@@ -60,4 +60,20 @@ pub enum DrawError {
     Refused(DrawRefusal),
     /// There was not memory enough for the states.
     NoMemory,
+}
+
+impl From<DrawRefusal> for DrawError {
+    ghost from_gives = { λ e r. r ≡ RefusedFor e };
+
+    fn from(refusal: DrawRefusal) -> DrawError {
+        DrawError::Refused(refusal)
+    }
+}
+
+impl From<AllocError> for DrawError {
+    ghost from_gives = { λ _ r. r ≡ NoMemory };
+
+    fn from(_error: AllocError) -> DrawError {
+        DrawError::NoMemory
+    }
 }

@@ -1,0 +1,20 @@
+-- All states, then all arrows.
+use Rattle.pattern.specs.Fits.{fitting}
+use Rattle.plan.specs.Views.{letters_of, patterns_of}
+use Rattle.sheet.specs.Views.{table_of}
+use Rattle.judge.specs.Tables.{words_in}
+use Rattle.judge.proofs.Entries.{some_entry}
+use Rattle.judge.proofs.Plotting.{plot_begin, drawn_for}
+use Rattle.judge.proofs.drawing.Plot.read_off.Goals as goal
+
+pub arrows-requires : goal.arrows-requires
+arrows-requires c =
+    let table = c.args.self.now.table.now in
+    record { complete = c.requires.complete; plotted = plot_begin c.args.self.now.plan.now (words_in table) table.size (table_of c.in_ok-sheet.sheet) c.in_ok-sheet.ensures.answer }
+
+pub returns : goal.returns
+returns c =
+    let plan = c.args.self.now.plan.now in
+    let w = words_in c.args.self.now.table.now in
+    let size = c.args.self.now.table.now.size in
+    record { answer = drawn_for plan w size c.arrows.new.sheet c.requires.complete.all (some_entry (letters_of plan) (fitting (patterns_of plan)) w size c.requires.complete.all) c.arrows.ensures.held }
