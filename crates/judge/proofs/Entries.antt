@@ -20,7 +20,10 @@ use Rattle.judge.specs.Exploring.{Completes, Fails, Overflows, Explored}
 use Rattle.judge.specs.declared.explore.Stop.{Stop}
 use Rattle.judge.specs.declared.explore.Stop.TheVariants.{Faulty, Full}
 use Rattle.judge.specs.Tables.{Finds}
-use Rattle.judge.specs.Plots.{arrow_to, Inside}
+use Rattle.judge.specs.Tables.{words_in}
+use Rattle.judge.specs.Plots.{arrow_to, Inside, Complete}
+use Rattle.judge.specs.declared.drawing.Plot.{Plot}
+use Rattle.judge.proofs.Groups.{length_words}
 use Rattle.sheet.specs.declared.Sheet.{Sheet}
 use Rattle.judge.specs.declared.refusals.DrawRefusal.TheVariants.{Words, States}
 use Rattle.judge.specs.declared.refusals.DrawError.{DrawError}
@@ -72,6 +75,13 @@ drawn_to_lem f n a x e h = subst (λ (y : ℕ × ℕ). to (0, x.0, x.1) ≡ draw
 -- a complete table has the entry of the empty word
 pub some_entry : (K : ℕ) (f : Fitting) (c : List ℕ) (size : ℕ) → Completes K (drawing f) c size → 0 < size
 some_entry K f c size h = let x = h.all.every [] (drawing f).start tt refl in omega (arith, x.1)
+
+-- of a complete table with its plan: there is an entry, and no more are in use than there are
+pub some : (p : Plot) → Complete p → 1 ≤ p.table.now.size
+some p h = some_entry (letters_of p.plan.now) (fitting (patterns_of p.plan.now)) (words_in p.table.now) p.table.now.size h.all
+
+pub room : (p : Plot) → Complete p → p.table.now.size ≤ length p.table.now.entries.now
+room p h = omega (arith, h.all.room, length_words p.table.now.entries.now)
 
 -- where a letter leads from an entry, an entry is found
 module _ (K : ℕ) (f : Fitting) (T : Table Node) (all : AllFound K (drawing f) T) where

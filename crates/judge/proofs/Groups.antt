@@ -1,21 +1,18 @@
 -- The words of the entries of a table, and the entries one by one.
-use Rattle.std.proofs.Common.{◌≡◌, ℕ, zero, suc, ◌+◌, ◌*◌, ◌<◌, ◌≤◌, List, [], ◌∷◌, length, get_or, set, take, Some, None, Option, sym, refl, ap, ◌∙◌, arith}
-use Rattle.std.proofs.lemmas.List.{get_or-take, length-take-le}
+use Rattle.std.proofs.Common.{◌≡◌, ℕ, zero, suc, ◌+◌, ◌-◌, ◌*◌, ◌<◌, ◌≤◌, List, [], ◌∷◌, length, get_or, set, take, drop, Some, None, Option, sym, refl, ap, ◌∙◌, arith}
+use Rattle.std.proofs.lemmas.List.{get_or-take, length-take-le, length-drop}
+use Rattle.std.proofs.lemmas.Grind.{get_or_after_one}
 use Rattle.std.specs.List.{AllWithin, HoldsAt}
 use Rattle.std.specs.Option.{MatchOption}
 use native.Mathlib.Numerals.{unary_clauses}
 use Rattle.automaton.specs.Judging.{Node}
 use Rattle.exploration.specs.Links.{link_at, node_at, written}
 use Rattle.judge.specs.Memory.{groups_in}
-use Rattle.judge.specs.Tables.{words_of, Finds}
+use Rattle.judge.specs.Tables.{words_of, node_in, Finds}
 
 pub length_words : (es : List (List ℕ)) → length (words_of es) ≡ 4 * length es
 length_words [] = refl
 length_words (e ∷ es) = omega (arith, length_words es)
-
--- the node of an entry
-abbrev pub node_in : List ℕ → Node
-node_in e = (get_or e 1 0, get_or e 2 0, get_or e 3 0)
 
 -- the j-th word of entry k
 word_at : (es : List (List ℕ)) (k j : ℕ) → j < 4 → get_or (words_of es) (4 * k + j) 0 ≡ get_or (get_or es k []) j 0
@@ -61,3 +58,18 @@ finds es size n (Some k) h m =
 
 pub groups_words : (es : List (List ℕ)) → groups_in (words_of es) ≡ length es
 groups_words es = omega (arith, length_words es)
+
+-- the entries in use but the first
+module _ (es u : List (List ℕ)) (size : ℕ) (e : u ≡ take size es) (room : size ≤ length es) where
+  pub length_used : length u ≡ size
+  length_used = ap length e ∙ length-take-le size es room
+
+  pub length_others : length (take (length u - 1) (drop 1 u)) ≡ size - 1
+  length_others = length-take-le (length u - 1) (drop 1 u) (omega (arith, length-drop 1 u)) ∙ omega (arith, length_used)
+
+  pub other_node : (i : ℕ) → i < length (take (length u - 1) (drop 1 u)) → node_in (get_or (take (length u - 1) (drop 1 u)) i []) ≡ node_at (words_of es) (i + 1)
+  other_node i l =
+      let less : i < length u - 1 = omega (arith, length_others, length_used) in
+      let next : 1 + i ≡ i + 1 = omega arith in
+      ap node_in (get_or-take (length u - 1) (drop 1 u) i [] less ∙ get_or_after_one u i [] ∙ (λ j. get_or (e j) (1 + i) []) ∙ get_or-take size es (1 + i) [] (omega (arith, length_used)))
+      ∙ sym (node_is es (1 + i)) ∙ ap (node_at (words_of es)) next

@@ -13,6 +13,10 @@ words_of (e ∷ es) = slice_index e 0 ∷ slice_index e 1 ∷ slice_index e 2 �
 abbrev pub words_in : Table → List ℕ
 words_in t = words_of t.entries.now
 
+-- the node of an entry
+abbrev pub node_in : List ℕ → Node
+node_in e = (slice_index e 1, slice_index e 2, slice_index e 3)
+
 -- as many letters, and as many entries in use or free
 pub record Same (t u : Table) : Type 0 where
   pub letters : u.letters ≡ t.letters

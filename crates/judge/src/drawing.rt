@@ -60,8 +60,8 @@ impl<'a, 'p> Plot<'a, 'p> {
         let mut sheet = Sheet::single(heap, self.plan.letters(), self.plan.shortest()).map_err(
             |_| DrawError::NoMemory,
         )?;
-        for k in 1..self.table.size {
-            let fits = self.table.node(k).fits;
+        for entry in &self.table.used()[1..] {
+            let fits = Node::of(*entry).fits;
             sheet
                 .push_state(self.plan.marks(fits), self.plan.is_prefix(fits))
                 .map_err(|_| DrawError::NoMemory)?;

@@ -49,18 +49,13 @@ impl<'p, 's> Judging<'p, 's> {
     fn settle(&self, reached: Option<StateNumber>, fits: (u64, u64)) -> Result<Option<Node>, Wrong>
         ensures answer { outcome result ≡ settled (fitting (patterns_of self.now.plan.now)) (automaton_of self.now.sheet.now) reached fits }
     {
-        let nowhere = is_nowhere(fits);
         match reached {
-            None => { if nowhere { Ok(None) } else { Err(Wrong) } }
-            Some(state) => {
-                if nowhere || !self.agrees(state, fits) {
-                    return Err(Wrong);
-                }
-                Ok(Some(Node {
-                    state: state as u64,
-                    fits,
-                }))
-            }
+            None if is_nowhere(fits) => Ok(None),
+            Some(state) if !is_nowhere(fits) && self.agrees(state, fits) => Ok(Some(Node {
+                state: state as u64,
+                fits,
+            })),
+            _ => Err(Wrong),
         }
     }
 

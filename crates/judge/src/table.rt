@@ -1,11 +1,11 @@
 //! The table of an exploration in the working memory. An entry is a group of four words: its link, its state, and its closing
 //! and inner fits. The link of an entry is the number of the entry that it was found from, times the number of letters, plus
 //! the letter.
-ghost use Rattle.std.specs.Prelude.{◌≡◌, ℕ, ◌+◌, ◌*◌, ◌^◌, ◌<◌, ◌≤◌, length};
+ghost use Rattle.std.specs.Prelude.{◌≡◌, ℕ, ◌+◌, ◌*◌, ◌^◌, ◌<◌, ◌≤◌, length, take};
 ghost use Rattle.exploration.specs.Links.{node_at, written};
 ghost use Rattle.judge.specs.Memory.{groups_in};
 ghost use Rattle.judge.specs.Moves.{node_of};
-ghost use Rattle.judge.specs.Tables.{words_in, Same, Finds};
+ghost use Rattle.judge.specs.Tables.{words_in, node_in, Same, Finds};
 
 use crate::machine::Node;
 
@@ -18,6 +18,19 @@ pub(crate) struct Table<'a> {
     pub(crate) entries: &'a mut [[u64; GROUP]],
     pub(crate) letters: u8,
     pub(crate) size: usize,
+}
+
+impl Node {
+    /// The node of an entry.
+    pub(crate) fn of(entry: [u64; GROUP]) -> Node
+        ensures answer { node_of result ≡ node_in entry }
+    {
+        let [_, state, closing, inner] = entry;
+        Node {
+            state,
+            fits: (closing, inner),
+        }
+    }
 }
 
 impl<'a> Table<'a> {
@@ -35,16 +48,20 @@ impl<'a> Table<'a> {
         }
     }
 
+    /// The entries in use.
+    pub(crate) fn used(&self) -> &[[u64; GROUP]]
+        requires room { self.now.size ≤ length self.now.entries.now }
+        ensures answer { result.now ≡ take self.now.size self.now.entries.now }
+    {
+        &self.entries[..self.size]
+    }
+
     /// The node of an entry.
     pub(crate) fn node(&self, row: usize) -> Node
         requires entry { row < length self.now.entries.now }
         ensures answer { node_of result ≡ node_at (words_in self.now) row }
     {
-        let [_, state, closing, inner] = self.entries[row];
-        Node {
-            state,
-            fits: (closing, inner),
-        }
+        Node::of(self.entries[row])
     }
 
     /// The entry that has the node, if there is one.
@@ -52,9 +69,7 @@ impl<'a> Table<'a> {
         requires room { self.now.size ≤ length self.now.entries.now }
         ensures answer { Finds (words_in self.now) self.now.size (node_of node) result }
     {
-        self.entries.iter().take(self.size).position(|&[_, state, closing, inner]| state
-            == node.state
-            && (closing, inner) == node.fits)
+        self.used().iter().position(|entry| Node::of(*entry) == node)
     }
 
     /// Adds an entry of the node, found from the entry `parent` by the letter.

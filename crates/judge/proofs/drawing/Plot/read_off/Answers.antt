@@ -1,9 +1,7 @@
 -- All states, then all arrows.
-use Rattle.pattern.specs.Fits.{fitting}
-use Rattle.plan.specs.Views.{letters_of, patterns_of}
 use Rattle.sheet.specs.Views.{table_of}
 use Rattle.judge.specs.Tables.{words_in}
-use Rattle.judge.proofs.Entries.{some_entry}
+use Rattle.judge.proofs.Entries.{some}
 use Rattle.judge.proofs.Plotting.{plot_begin, drawn_for}
 use Rattle.judge.proofs.drawing.Plot.read_off.Goals as goal
 
@@ -17,4 +15,4 @@ returns c =
     let plan = c.args.self.now.plan.now in
     let w = words_in c.args.self.now.table.now in
     let size = c.args.self.now.table.now.size in
-    record { answer = drawn_for plan w size c.arrows.new.sheet c.requires.complete.all (some_entry (letters_of plan) (fitting (patterns_of plan)) w size c.requires.complete.all) c.arrows.ensures.held }
+    record { answer = drawn_for plan w size c.arrows.new.sheet c.requires.complete.all (some c.args.self.now c.requires.complete) c.arrows.ensures.held }

@@ -7,15 +7,14 @@ use Rattle.plan.specs.Views.{letters_of, patterns_of}
 use Rattle.exploration.specs.Links.{cells, node_at}
 use Rattle.judge.specs.Moves.{node_of}
 use Rattle.judge.specs.Tables.{words_in}
-use Rattle.judge.proofs.Groups.{length_words}
-use Rattle.judge.proofs.Entries.{found_leads, found_in, inside}
+use Rattle.judge.proofs.Entries.{room, found_leads, found_in, inside}
 use Rattle.judge.proofs.drawing.Plot.target.Goals as goal
 
 pub node-requires : goal.node-requires
-node-requires c = record { entry = omega (arith, c.requires.complete.all.room, length_words c.args.self.now.table.now.entries.now) }
+node-requires c = record { entry = omega (arith, room c.args.self.now c.requires.complete) }
 
 pub find-requires : goal.find-requires
-find-requires c = record { room = omega (arith, c.requires.complete.all.room, length_words c.args.self.now.table.now.entries.now) }
+find-requires c = record { room = room c.args.self.now c.requires.complete }
 
 pub returns-in-Ok-Some-clause-answer : goal.returns-in-Ok-Some-clause-answer
 returns-in-Ok-Some-clause-answer c =
