@@ -2,8 +2,8 @@
 use Rattle.std.specs.Prelude.{◌≡◌, ℕ, ◌+◌, ◌<◌, Bool, true, map, length, take, is_ok, Ok, Err, vec_items, Result}
 use Rattle.sheet.specs.declared.Sheet.{Sheet}
 use Rattle.sheet.specs.declared.states.State.{State}
-use Rattle.sheet.specs.declared.refusals.SheetError.{SheetError}
-use Rattle.sheet.specs.declared.refusals.SheetError.TheVariants.{Refused, NoMemory}
+use Rattle.sheet.specs.declared.refusals.Unmade.{Unmade}
+use Rattle.sheet.specs.declared.refusals.Unmade.TheVariants.{Refused, NoMemory}
 use Rattle.sheet.specs.declared.refusals.SheetRefusal.{SheetRefusal}
 use Rattle.sheet.specs.declared.refusals.GrowthError.{GrowthError}
 use Rattle.sheet.specs.declared.refusals.GrowthError.TheVariants.{Full}
@@ -26,7 +26,7 @@ abbrev pub automaton_of : Sheet → Automaton
 automaton_of sheet = automaton_in (table_of sheet)
 
 -- a sheet is answered exactly where there is a table for it, unless memory is wanting; each refusal is for its reason
-abbrev pub Gives : Result Table SheetRefusal → Result Sheet SheetError → Type 0
+abbrev pub Gives : Result Table SheetRefusal → Result Sheet (Unmade SheetRefusal) → Type 0
 Gives wanted (Ok sheet) = wanted ≡ Ok (table_of sheet)
 Gives wanted (Err (Refused refusal)) = wanted ≡ Err refusal
 Gives wanted (Err NoMemory) = is_ok wanted ≡ true

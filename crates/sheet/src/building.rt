@@ -51,10 +51,8 @@ impl Sheet {
         if self.states.len() == MOST_STATES {
             return Err(GrowthError::Full);
         }
-        match self.states.push(plain(marks, prefix)) {
-            Ok(()) => Ok(self.states.len() as StateNumber),
-            Err(_) => Err(GrowthError::NoMemory),
-        }
+        self.states.push(plain(marks, prefix))?;
+        Ok(self.states.len() as StateNumber)
     }
 
     /// Whether both states and the letter exist.

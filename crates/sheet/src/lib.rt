@@ -12,7 +12,7 @@ pub mod refusals;
 mod states;
 mod writing;
 
-pub use refusals::{GrowthError, SheetError, SheetRefusal};
+pub use refusals::{GrowthError, SheetError, SheetRefusal, Unmade};
 use states::State;
 pub use states::{MOST_LETTERS, MOST_STATES, START, StateNumber};
 

@@ -1,9 +1,10 @@
 //! Why a sheet is not read, written or made.
 ghost use Rattle.std.specs.Prelude.{◌≡◌};
 ghost use Rattle.sheet.specs.Refusals.{number_of};
-ghost use Rattle.sheet.specs.declared.refusals.SheetError.TheVariants.{Refused as RefusedFor, NoMemory};
+ghost use Rattle.sheet.specs.declared.refusals.GrowthError.TheVariants.{NoMemory as NoRoom};
+ghost use Rattle.sheet.specs.declared.refusals.Unmade.TheVariants.{Refused as RefusedFor, NoMemory};
 
-use std::alloc::AllocError;
+use std::alloc::{AllocError, AllocFailed};
 
 /// The question about a file that was answered by no.
 #[derive(Clone, Copy, Debug, PartialEq, Eq)]
@@ -38,14 +39,25 @@ impl SheetRefusal {
     }
 }
 
-/// Why no sheet was made: it was refused, or memory was wanting, which says nothing about it.
+/// Why a value was not made: it was refused, with the refusal, or memory was wanting, which says nothing about it.
 #[derive(Clone, Copy, Debug, PartialEq, Eq)]
-pub enum SheetError {
+pub enum Unmade<R> {
     /// It was refused.
-    Refused(SheetRefusal),
+    Refused(R),
     /// There was not memory enough.
     NoMemory,
 }
+
+impl<R> From<AllocError> for Unmade<R> {
+    ghost from_gives = { λ _ r. r ≡ NoMemory };
+
+    fn from(_error: AllocError) -> Unmade<R> {
+        Unmade::NoMemory
+    }
+}
+
+/// Why no sheet was made.
+pub type SheetError = Unmade<SheetRefusal>;
 
 impl From<SheetRefusal> for SheetError {
     ghost from_gives = { λ e r. r ≡ RefusedFor e };
@@ -55,19 +67,20 @@ impl From<SheetRefusal> for SheetError {
     }
 }
 
-impl From<AllocError> for SheetError {
-    ghost from_gives = { λ _ r. r ≡ NoMemory };
-
-    fn from(_error: AllocError) -> SheetError {
-        SheetError::NoMemory
-    }
-}
-
 /// Why a sheet does not get one state more.
+// A single case that has no number of its own: `GrowthError::Full` says it more plainly than `Unmade` of a type with one value would.
 #[derive(Clone, Copy, Debug, PartialEq, Eq)]
 pub enum GrowthError {
     /// It has as many states as a sheet can have.
     Full,
     /// There was not memory enough.
     NoMemory,
+}
+
+impl<T: Drop> From<AllocFailed<T>> for GrowthError {
+    ghost from_gives = { λ _ r. r ≡ NoRoom };
+
+    fn from(_error: AllocFailed<T>) -> GrowthError {
+        GrowthError::NoMemory
+    }
 }

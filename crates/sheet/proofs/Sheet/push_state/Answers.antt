@@ -2,7 +2,8 @@ use Rattle.std.proofs.Common.{List, map, is_ok, vec_items, vec_len, refl, ap, ar
 use Rattle.std.proofs.lemmas.List.{length-map}
 use Rattle.sheet.specs.Views.{entry_in}
 use Rattle.sheet.specs.declared.states.State.{State}
-use Rattle.sheet.proofs.Goods.{sheet_good, good_pushed, pushed_is}
+use Rattle.sheet.proofs.Goods.{sheet_good, good_pushed, pushed_is, no_room}
+use Rattle.sheet.specs.Tables.{Table}
 use Rattle.sheet.proofs.Sheet.push_state.Goals as goal
 
 pub returns-then-len-eq-MOST_STATES : goal.returns-then-len-eq-MOST_STATES
@@ -30,8 +31,8 @@ invariant_of-self c =
       bare = λ k. (g k).bare;
     }
 
-pub returns-in-Ok : goal.returns-in-Ok
-returns-in-Ok c =
+pub returns : goal.returns
+returns c =
     let sheet = c.args.self.now in
     record {
       answer = (
@@ -41,12 +42,16 @@ returns-in-Ok c =
       );
     }
 
-pub returns-in-Err : goal.returns-in-Err
-returns-in-Err c =
+pub returns-in_err-push : goal.returns-in_err-push
+returns-in_err-push c =
     let sheet = c.args.self.now in
+    let table : List State → Table =
+    λ xs. record { letters = sheet.letters; shortest = sheet.shortest; states = map (entry_in sheet.letters) xs }
+    in
     record {
-      answer = (
-        simp length-map (omega (arith, sheet.states.ok.0)),
-        ap (λ (xs : List State). record { letters = sheet.letters; shortest = sheet.shortest; states = map (entry_in sheet.letters) xs }) c.in-Err.ensures.items,
-      );
+      answer =
+          no_room _ _ c.args.marks c.args.prefix c.from_residual.result
+          (simp length-map (omega (arith, sheet.states.ok.0)))
+          (ap table c.in_err-push.ensures.items)
+          c.from_residual.ensures.1;
     }
