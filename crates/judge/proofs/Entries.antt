@@ -26,8 +26,8 @@ use Rattle.judge.specs.declared.drawing.Plot.{Plot}
 use Rattle.judge.proofs.Groups.{length_words}
 use Rattle.sheet.specs.declared.Sheet.{Sheet}
 use Rattle.judge.specs.declared.refusals.DrawRefusal.TheVariants.{Words, States}
-use Rattle.judge.specs.declared.refusals.DrawError.{DrawError}
-use Rattle.judge.specs.declared.refusals.DrawError.TheVariants.{Refused, NoMemory}
+use Rattle.judge.specs.Refusals.{DrawError}
+use Rattle.sheet.specs.declared.refusals.Unmade.TheVariants.{Refused, NoMemory}
 use Rattle.judge.specs.Drawings.{StatesSuffice, HasWords, DrawnFor, DrawnWith, DrawAnswers, MadeUnlessMemory}
 
 -- no letter is a fault

@@ -10,8 +10,8 @@ use Rattle.sheet.specs.declared.Sheet.{Sheet}
 use Rattle.sheet.specs.Views.{table_of, automaton_of}
 use Rattle.judge.specs.Memory.{Wiped}
 use Rattle.judge.specs.declared.refusals.DrawRefusal.TheVariants.{Words, States}
-use Rattle.judge.specs.declared.refusals.DrawError.{DrawError}
-use Rattle.judge.specs.declared.refusals.DrawError.TheVariants.{Refused, NoMemory}
+use Rattle.judge.specs.Refusals.{DrawError}
+use Rattle.sheet.specs.declared.refusals.Unmade.TheVariants.{Refused, NoMemory}
 
 -- the questions, in their order
 

@@ -1,9 +1,9 @@
 //! Why a sheet is not accepted, or not drawn.
 ghost use Rattle.std.specs.Prelude.{◌≡◌};
 ghost use Rattle.judge.specs.Refusals.{number_of, draw_number_of};
-ghost use Rattle.judge.specs.declared.refusals.DrawError.TheVariants.{Refused as RefusedFor, NoMemory};
+ghost use Rattle.sheet.specs.declared.refusals.Unmade.TheVariants.{Refused as RefusedFor};
 
-use std::alloc::AllocError;
+use sheet::Unmade;
 
 /// The question about a sheet, for a plan, that was answered by no.
 #[derive(Clone, Copy, Debug, PartialEq, Eq)]
@@ -54,26 +54,12 @@ impl DrawRefusal {
 }
 
 /// Why no sheet was drawn: it was refused, or memory for its states was wanting, which says nothing about the plan.
-#[derive(Clone, Copy, Debug, PartialEq, Eq)]
-pub enum DrawError {
-    /// It was refused.
-    Refused(DrawRefusal),
-    /// There was not memory enough for the states.
-    NoMemory,
-}
+pub type DrawError = Unmade<DrawRefusal>;
 
 impl From<DrawRefusal> for DrawError {
     ghost from_gives = { λ e r. r ≡ RefusedFor e };
 
     fn from(refusal: DrawRefusal) -> DrawError {
         DrawError::Refused(refusal)
-    }
-}
-
-impl From<AllocError> for DrawError {
-    ghost from_gives = { λ _ r. r ≡ NoMemory };
-
-    fn from(_error: AllocError) -> DrawError {
-        DrawError::NoMemory
     }
 }

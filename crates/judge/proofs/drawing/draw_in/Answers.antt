@@ -1,7 +1,7 @@
 -- What the exploration says of the number of states.
 use Rattle.std.proofs.Common.{◌≡◌, false, Ok, Err, rules, arith}
 use Rattle.judge.specs.declared.refusals.DrawRefusal.TheVariants.{States}
-use Rattle.judge.specs.declared.refusals.DrawError.TheVariants.{Refused}
+use Rattle.sheet.specs.declared.refusals.Unmade.TheVariants.{Refused}
 use Rattle.std.specs.Result.{is_ok}
 use Rattle.plan.specs.Views.{letters_of}
 use Rattle.judge.specs.Tables.{words_in}
