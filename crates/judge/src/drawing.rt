@@ -44,6 +44,7 @@ impl<'p> Machine for Drawing<'p> {
 }
 
 /// What a sheet is read off: a table of the drawing machine of a plan.
+// Each method asks for `Complete`: it tells at which entry a node stands, so it is no proposition, as a ghost field has to be.
 #[derive(Clone, Copy)]
 struct Plot<'a, 'p> {
     plan: &'p Plan,
@@ -102,6 +103,7 @@ impl<'a, 'p> Plot<'a, 'p> {
         requires plotted { PlottedFor self.now 0 0 (table_of sheet.old) }
         ensures held { PlottedFor self.now self.now.table.now.size 0 (table_of sheet.new) }
     {
+        // Rows and letters are counted, since an arrow is set by the numbers of its states and its letter.
         for row in 0..self.table.size {
             for letter in 0..self.plan.letters() {
                 self.point(sheet, row, letter);

@@ -47,7 +47,7 @@ impl Table<'_> {
         ensures same { Same self.old self.new }
     {
         self.push(0, 0, machine.start());
-        // The rows are counted, since the table grows while they are walked.
+        // The rows are counted, since the table grows while they are walked; a letter is a number.
         let mut row = 0;
         while row < self.size {
             for letter in 0..self.letters {

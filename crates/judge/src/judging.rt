@@ -31,10 +31,8 @@ impl<'p, 's> Judging<'p, 's> {
     fn follow(&self, state: u64, letter: u8) -> Option<StateNumber>
         ensures answer { result ≡ (automaton_of self.now.sheet.now).arrow state letter }
     {
-        let Ok(state) = StateNumber::try_from(state) else {
-            return None;
-        };
-        self.sheet.follow(state, letter)
+        self.sheet
+            .follow(StateNumber::try_from(state).ok()?, letter)
     }
 
     /// Whether both marks of the state are those of a word with these fits.

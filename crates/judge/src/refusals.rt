@@ -25,6 +25,7 @@ impl JudgeRefusal {
     pub fn number(self) -> u8
         ensures answer { result ≡ number_of self }
     {
+        // A refusal with a length in it is not cast, so the numbers stand here and not at the variants.
         match self {
             JudgeRefusal::Letters => 32,
             JudgeRefusal::Shortest => 33,

@@ -13,6 +13,7 @@ use crate::machine::Node;
 pub(crate) const GROUP: usize = 4;
 
 /// The entries of which the first `size` are in use, for words of so many letters.
+// They lie in the lent working memory, so their number stands beside them.
 #[derive(Drop)]
 pub(crate) struct Table<'a> {
     pub(crate) entries: &'a mut [[u64; GROUP]],
@@ -69,7 +70,9 @@ impl<'a> Table<'a> {
         requires room { self.now.size ≤ length self.now.entries.now }
         ensures answer { Finds (words_in self.now) self.now.size (node_of node) result }
     {
-        self.used().iter().position(|entry| Node::of(*entry) == node)
+        self.used()
+            .iter()
+            .position(|entry| Node::of(*entry) == node)
     }
 
     /// Adds an entry of the node, found from the entry `parent` by the letter.
