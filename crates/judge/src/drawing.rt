@@ -122,31 +122,31 @@ impl<'a, 'p> Plot<'a, 'p> {
     }
 }
 
-/// Draws with a table of as many entries as a sheet can have states.
-fn draw_in(heap: Global, plan: &Plan, cells: &mut [u64]) -> Result<Sheet, DrawError>
-    requires room { length cells.old ≡ 1020 }
-    ensures answer { DrawnWith plan.now result }
-{
-    let mut table = Table::over(cells, plan.letters());
-    // No word is a fault of this machine: it stops only for want of entries.
-    table
-        .explore(&Drawing { plan })
-        .map_err(|_| DrawRefusal::States)?;
-    Plot {
-        plan,
-        table: &table,
+impl<'p> Drawing<'p> {
+    /// Draws with a table of as many entries as a sheet can have states.
+    fn draw_in(&self, heap: Global, cells: &mut [u64]) -> Result<Sheet, DrawError>
+        requires room { length cells.old ≡ 1020 }
+        ensures answer { DrawnWith self.now.plan.now result }
+    {
+        let mut table = Table::over(cells, self.plan.letters());
+        // No word is a fault of this machine: it stops only for want of entries.
+        table.explore(self).map_err(|_| DrawRefusal::States)?;
+        Plot {
+            plan: self.plan,
+            table: &table,
+        }
+        .read_off(heap)
     }
-    .read_off(heap)
-}
 
-/// Draws over the words of the memory, whatever they hold.
-fn draw_over(heap: Global, plan: &Plan, cells: &mut [u64]) -> Result<Sheet, DrawError>
-    ensures answer { DrawAnswers plan.now cells.old result }
-{
-    if cells.len() < DRAW_WORDS {
-        return Err(DrawError::Refused(DrawRefusal::Words));
+    /// Draws over the words of the memory, whatever they hold.
+    fn draw_over(&self, heap: Global, cells: &mut [u64]) -> Result<Sheet, DrawError>
+        ensures answer { DrawAnswers self.now.plan.now cells.old result }
+    {
+        if cells.len() < DRAW_WORDS {
+            return Err(DrawError::Refused(DrawRefusal::Words));
+        }
+        self.draw_in(heap, &mut cells[..DRAW_WORDS])
     }
-    draw_in(heap, plan, &mut cells[..DRAW_WORDS])
 }
 
 /// Draws the sheet of the plan, and leaves the working memory all zeros.
@@ -154,5 +154,5 @@ pub fn draw(heap: Global, plan: &Plan, memory: &mut [u64]) -> Result<Sheet, Draw
     ensures drawn { Draws plan.now memory.old memory.new result }
 {
     let guard = Scratch { words: memory };
-    draw_over(heap, plan, guard.words)
+    Drawing { plan }.draw_over(heap, guard.words)
 }

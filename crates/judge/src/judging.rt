@@ -72,6 +72,7 @@ impl<'p, 's> Judging<'p, 's> {
             return Err(JudgeRefusal::Room);
         }
         let mut table = Table::over(cells, letters);
+        // A fault is refused with its word, which is spelt from the table: more than a conversion of the error.
         match table.explore(self) {
             Ok(()) => Ok(()),
             Err(Stop::Full) => Err(JudgeRefusal::Pairs),

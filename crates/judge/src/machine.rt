@@ -23,9 +23,10 @@ pub(crate) struct Wrong;
 pub(crate) trait Machine {
     ghost meaning: { Self → Meaning NodeTriple };
 
-    /// The node where the empty word stands.
+    /// The node where the empty word stands; it has no fits.
     fn start(&self) -> Node
-        ensures answer { (meaning self.now).start ≡ node_of result };
+        ensures answer { (meaning self.now).start ≡ node_of result }
+        ensures none { result.fits ≡ (0, 0) };
 
     /// The node that the letter leads to from a node, if it leads anywhere.
     fn step(&self, node: Node, letter: u8) -> Result<Option<Node>, Wrong>

@@ -5,11 +5,6 @@ use Rattle.judge.proofs.Entries.{some}
 use Rattle.judge.proofs.Plotting.{plot_begin, drawn_for}
 use Rattle.judge.proofs.drawing.Plot.read_off.Goals as goal
 
-pub arrows-requires : goal.arrows-requires
-arrows-requires c =
-    let table = c.args.self.now.table.now in
-    record { complete = c.requires.complete; plotted = plot_begin c.args.self.now.plan.now (words_in table) table.size (table_of c.in_ok-sheet.sheet) c.in_ok-sheet.ensures.answer }
-
 pub returns : goal.returns
 returns c =
     let plan = c.args.self.now.plan.now in

@@ -24,12 +24,6 @@ slice_bounds-entry-items-start c =
     let table = c.args.self.now.table.now in
     omega (arith, some c.args.self.now c.requires.complete, length_used table.entries.now c.used.result.now table.size c.used.ensures.answer (room c.args.self.now c.requires.complete))
 
-pub loop-entry-init : goal.loop-entry-init
-loop-entry-init c =
-    let e : c.single.result ≡ Ok c.in_ok-sheet.sheet = search rules in
-    let s = rw e at c.single.ensures.answer in
-    bare_one c.args.self.now.plan.now (words_in c.args.self.now.table.now) _ _ c.letters.result c.shortest.result (table_of c.in_ok-sheet.sheet) s c.letters.ensures.answer c.shortest.ensures.answer
-
 pub loop-entry-preserved : goal.loop-entry-preserved
 loop-entry-preserved c =
     let plan = c.args.self.now.plan.now in

@@ -27,6 +27,3 @@ returns-in-Ok-Some-clause-answer c =
     let n = node_of c.in-Ok-Some.node in
     let e : step (node_at w c.args.row) c.args.letter ≡ to n = cc (c.node.ensures.answer, h) in
     found_leads K (fitting (patterns_of plan)) (cells K w size) c.requires.complete.all.all c.args.row c.args.letter n c.find.result c.requires.entry c.requires.spelt e (found_in K w size n c.find.result c.find.ensures.answer)
-
-pub returns-in-Ok-Some-clause-inside : goal.returns-in-Ok-Some-clause-inside
-returns-in-Ok-Some-clause-inside c = inside (words_in c.args.self.now.table.now) c.args.self.now.table.now.size (node_of c.in-Ok-Some.node) c.find.result c.find.ensures.answer
