@@ -21,7 +21,7 @@ use Rattle.judge.specs.declared.explore.Stop.{Stop}
 use Rattle.judge.specs.declared.explore.Stop.TheVariants.{Faulty, Full}
 use Rattle.judge.specs.Tables.{Finds}
 use Rattle.judge.specs.Tables.{words_in}
-use Rattle.judge.specs.Plots.{arrow_to, Inside, Complete}
+use Rattle.judge.specs.Plots.{arrow_to, Complete}
 use Rattle.judge.specs.declared.drawing.Plot.{Plot}
 use Rattle.judge.proofs.Groups.{length_words}
 use Rattle.sheet.specs.declared.Sheet.{Sheet}
@@ -54,10 +54,6 @@ never_fails f {K} {c} {i} {a} h =
 abbrev pub FoundIn : Table Node → Node → Option ℕ → Type 0
 FoundIn T n None = (k : ℕ) → k < T.size → T.node k ≡ n → ⊥
 FoundIn T n (Some k) = (k < T.size) × (T.node k ≡ n)
-
-pub inside : (c : List ℕ) (size : ℕ) (n : Node) (r : Option ℕ) → Finds c size n r → Inside size r
-inside c size n None h = tt
-inside c size n (Some k) h = h.0
 
 pub found_in : (K : ℕ) (c : List ℕ) (size : ℕ) (n : Node) (r : Option ℕ) → Finds c size n r → FoundIn (cells K c size) n r
 found_in K c size n None h = h
@@ -156,13 +152,6 @@ pub stopped : (plan : Plan) (K : ℕ) (c : List ℕ) (size : ℕ) (r : Result (U
 stopped plan K c size (Ok _) h f e n = cc
 stopped plan K c size (Err (Faulty i a)) h f e n = absurd (never_fails (fitting (patterns_of plan)) h)
 stopped plan K c size (Err Full) h f e n = over plan h e n
-
--- with memory enough
-pub answered : (plan : Plan) (memory : List ℕ) (r : Result Sheet DrawError) → HasWords memory → DrawnWith plan r → DrawAnswers plan memory r
-answered plan memory (Ok sheet) h d = (h, d)
-answered plan memory (Err (Refused Words)) h d = absurd d
-answered plan memory (Err (Refused States)) h d = (h, d)
-answered plan memory (Err NoMemory) h d = (h, d)
 
 -- where want of memory is the only error
 pub made : (plan : Plan) (r : Result Sheet DrawError) → MadeUnlessMemory (DrawnFor plan) r → StatesSuffice plan → DrawnWith plan r

@@ -101,23 +101,6 @@ module _ (plan : Plan) (c : List ℕ) where
       later k b l m (inl less) = kept k b (omega arith) ∙ h.later k b l m (inl less)
       later k b l m (inr d) = subst (λ (z : ℕ). get_or (state u z).arrows b 0 ≡ 0) (sym d.0) (r.same_row b (omega (arith, d.1)) ∙ h.later i b (subst (λ (z : ℕ). z < count) d.0 l) m (inr (refl, omega (arith, d.1))))
 
-  -- the letter leads nowhere
-  pub plot_none : (count i a : ℕ) (t : Table) → Plotted plan c count i a t → i < count → a < letters_of plan → Goes count i a 0 → Plotted plan c count i (a + 1) t
-  plot_none count i a t h l m g = plot count i a 0 t t h r g
-    where
-      r : Redrawn count i a 0 t t
-      r = record {
-        letters = refl;
-        shortest = refl;
-        size = refl;
-        marks = λ k. refl;
-        prefixes = λ k. refl;
-        wide = λ k. refl;
-        here = h.later i a l m (inr (refl, omega arith));
-        same_row = λ b ne. refl;
-        other_rows = λ k ne. refl;
-      }
-
   redrawn : (count i a x : ℕ) (t : Table) → i < length t.states → a < length (state t i).arrows → Redrawn count i a x t (redirected t (suc i) a x)
   redrawn count i a x t l m =
       record {
@@ -191,31 +174,6 @@ module _ (plan : Plan) (c : List ℕ) where
       never : (k b : ℕ) → Done 0 0 k b → ⊥
       never k b (inl less) = omega arith
       never k b (inr d) = omega (arith, d.1)
-
-  pub plot_row : (count i a : ℕ) (t : Table) → Plotted plan c count i a t → letters_of plan ≤ a → Plotted plan c count (i + 1) 0 t
-  plot_row count i a t h all =
-      record {
-        letters = h.letters;
-        shortest = h.shortest;
-        size = h.size;
-        marks = h.marks;
-        prefixes = h.prefixes;
-        wide = h.wide;
-        done = λ k b l m d. h.done k b l m (was k b m d);
-        later = λ k b l m d. h.later k b l m (inl (past k b d));
-      }
-    where
-      was : (k b : ℕ) → b < letters_of plan → Done (i + 1) 0 k b → Done i a k b
-      was k b m (inl less) = split (cases_eq k i)
-        where
-          split : (k ≡ i) ⊎ (k ≡ i → ⊥) → Done i a k b
-          split (inl e) = inr (e, omega arith)
-          split (inr ne) = inl (omega arith)
-      was k b m (inr d) = absurd (omega (arith, d.1))
-
-      past : (k b : ℕ) → Later (i + 1) 0 k b → i < k
-      past k b (inl less) = omega arith
-      past k b (inr d) = omega (arith, d.0)
 
   read_off : (count : ℕ) (t : Table) → Plotted plan c count count 0 t → 0 < count → ReadOff (letters_of plan) (fitting (patterns_of plan)) (cells (letters_of plan) c count) (automaton_in t)
   unfolding entry_at

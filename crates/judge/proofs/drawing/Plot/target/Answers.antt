@@ -7,7 +7,7 @@ use Rattle.plan.specs.Views.{letters_of, patterns_of}
 use Rattle.exploration.specs.Links.{cells, node_at}
 use Rattle.judge.specs.Moves.{node_of}
 use Rattle.judge.specs.Tables.{words_in}
-use Rattle.judge.proofs.Entries.{room, found_leads, found_in, inside}
+use Rattle.judge.proofs.Entries.{room, found_leads, found_in}
 use Rattle.judge.proofs.drawing.Plot.target.Goals as goal
 
 pub node-requires : goal.node-requires
