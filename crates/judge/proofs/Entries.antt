@@ -1,5 +1,5 @@
 -- A complete table of the drawing machine draws a sheet: each letter leads to an entry, and the states suffice.
-use Rattle.std.proofs.Common.{◌≡◌, ℕ, zero, suc, ◌/◌, ◌<◌, ◌≤◌, Bool, true, false, ◌⊎◌, List, [], ◌∷◌, length, Some, None, Ok, Err, Option, Result, sym, refl, ◌∙◌, subst, inl, inr, arith}
+use Rattle.std.proofs.Common.{◌≡◌, ℕ, zero, suc, ◌<◌, ◌≤◌, Bool, true, false, ◌⊎◌, List, [], ◌∷◌, length, Some, None, Ok, Err, Option, Result, sym, refl, ◌∙◌, subst, inl, inr, arith}
 use Rattle.std.proofs.lemmas.Bool.{cases_lt}
 use Rattle.std.specs.Result.{is_ok}
 use Rattle.pattern.specs.Fits.{Fitting, fitting}
@@ -25,25 +25,17 @@ use Rattle.judge.specs.Plots.{arrow_to, Complete}
 use Rattle.judge.specs.declared.drawing.Plot.{Plot}
 use Rattle.judge.proofs.Groups.{length_words}
 use Rattle.sheet.specs.declared.Sheet.{Sheet}
-use Rattle.judge.specs.declared.refusals.DrawRefusal.TheVariants.{Words, States}
 use Rattle.judge.specs.Refusals.{DrawError}
-use Rattle.sheet.specs.declared.refusals.Unmade.TheVariants.{Refused, NoMemory}
-use Rattle.judge.specs.Drawings.{StatesSuffice, HasWords, DrawnFor, DrawnWith, DrawAnswers, MadeUnlessMemory}
+use Rattle.judge.specs.Drawings.{StatesSuffice, DrawnFor, DrawnWith, MadeUnlessMemory}
 
 -- no letter is a fault
-clash : ◌≡◌ {A = Outcome Node} dead wrong → ⊥
-clash h = let z : ◌≡◌ {A = ℕ} 0 1 = cc in omega arith
-
-other : {n : Node} → ◌≡◌ {A = Outcome Node} (to n) wrong → ⊥
-other h = let z : ◌≡◌ {A = ℕ} 0 1 = cc in omega arith
-
 faultless : (f : Fitting) (n : Node) (a : ℕ) → (drawing f).step n a ≡ wrong → ⊥
 unfolding drawing
 faultless f n a h = go (grown f (n.1, n.2) a) (nowhere (grown f (n.1, n.2) a)) refl h
   where
     go : (x : ℕ × ℕ) (b : Bool) → nowhere x ≡ b → drawn_to x ≡ wrong → ⊥
-    go x true e h = clash (rw e at h)
-    go x false e h = other (rw e at h)
+    go x true e h = let z = rw e at h in cc
+    go x false e h = let z = rw e at h in cc
 
 pub never_fails : (f : Fitting) {K : ℕ} {c : List ℕ} {i a : ℕ} → Fails K (drawing f) c i a → ⊥
 never_fails f {K} {c} {i} {a} h =

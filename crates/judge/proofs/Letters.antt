@@ -1,7 +1,7 @@
 -- A word in a buffer, with one letter more at its end.
-use Rattle.std.proofs.Common.{◌≡◌, ℕ, zero, suc, ◌+◌, ◌<◌, ◌≤◌, List, [], ◌∷◌, ◌++◌, reverse, length, drop, set, sym, refl, ap, ◌∙◌, arith}
+use Rattle.std.proofs.Common.{◌≡◌, ℕ, ◌+◌, ◌<◌, ◌≤◌, List, [], ◌∷◌, ◌++◌, reverse, length, drop, set, sym, ap, ◌∙◌, arith}
 use Rattle.std.proofs.lemmas.List.{drop_more, set_at, length-reverse, reverse-append, append_assoc, length-append, length-drop}
-use Rattle.exploration.specs.Links.{spell, parent_at, letter_at}
+use Rattle.exploration.specs.Links.{parent_at, letter_at}
 use Rattle.exploration.specs.Cells.{text_at}
 use Rattle.exploration.proofs.Links.{spell_last}
 use Rattle.judge.specs.Words.{Spellable, Spelt}

@@ -1,5 +1,5 @@
 -- States and arrows that are added to a table, and the sheet that it is in the end.
-use Rattle.std.proofs.Common.{◌≡◌, ℕ, zero, suc, ◌+◌, ◌<◌, ◌≤◌, Bool, true, false, cond, ◌≢◌, ◌⊎◌, List, length, get_or, Ok, Err, Result, sym, refl, ap, ◌∙◌, subst, inl, inr, arith, length-set, below_more}
+use Rattle.std.proofs.Common.{◌≡◌, ℕ, zero, suc, ◌+◌, ◌<◌, Bool, true, false, cond, ◌≢◌, ◌⊎◌, List, length, get_or, Ok, sym, refl, ap, ◌∙◌, subst, inl, inr, arith, length-set, below_more}
 use Rattle.std.proofs.lemmas.List.{get_or_append_left, get_or_push, length_push, get_or-set_same, get_or-set_other, get_or-replicate, length-replicate}
 use Rattle.std.proofs.lemmas.Bool.{cases_eq, le-leb, lt-ltb}
 use Rattle.pattern.specs.Patterns.{shortest}
@@ -22,15 +22,9 @@ use Rattle.judge.specs.Drawings.{DrawnFor}
 
 -- ---- states
 
-refused : {A : Type 0} (e : SheetRefusal) (t : A) → ◌≡◌ {A = Result A SheetRefusal} (Err e) (Ok t) → ⊥
-refused e t h = let z : ◌≡◌ {A = ℕ} 0 1 = cc in omega arith
-
-ok_inj : (s t : Table) → ◌≡◌ {A = Result Table SheetRefusal} (Ok s) (Ok t) → s ≡ t
-ok_inj s t h = cc
-
 asked : (b : Bool) (e : SheetRefusal) (s t : Table) → ask b e (Ok s) ≡ Ok t → s ≡ t
-asked true e s t h = ok_inj s t h
-asked false e s t h = absurd (refused e t h)
+asked true e s t h = cc
+asked false e s t h = cc
 
 module _ (plan : Plan) (c : List ℕ) where
   pub bare_one : (b : Bool) (e : SheetRefusal) (K s : ℕ) (t : Table) → ask b e (Ok (single K s)) ≡ Ok t → K ≡ letters_of plan → s ≡ shortest (patterns_of plan) → Bare plan c 1 t

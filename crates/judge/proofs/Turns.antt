@@ -1,10 +1,10 @@
 -- The stages of a walk, where the code holds the table.
-use Rattle.std.proofs.Common.{◌≡◌, ℕ, ◌+◌, ◌*◌, ◌<◌, ◌≤◌, true, false, List, length, Some, None, Option, sym, ◌∙◌, arith}
+use Rattle.std.proofs.Common.{◌≡◌, ℕ, ◌+◌, ◌≤◌, true, false, List, length, Some, None, Option, sym, ◌∙◌, arith}
 use Rattle.std.specs.Option.{is_some}
 use Rattle.automaton.specs.Machines.{Machine}
 use Rattle.automaton.specs.Judging.{Node}
 use Rattle.exploration.specs.Links.{written}
-use Rattle.exploration.specs.Cells.{Sound, Traceable, Among, NotAmong}
+use Rattle.exploration.specs.Cells.{Sound, Among, NotAmong}
 use Rattle.exploration.proofs.Cells.{settle_start}
 use Rattle.judge.specs.Tables.{words_of, Finds}
 use Rattle.judge.proofs.Groups.{length_words}

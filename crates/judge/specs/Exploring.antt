@@ -1,5 +1,5 @@
 -- What an exploration answers about a machine M over K letters, with its table in the cells c.
-use Rattle.std.specs.Prelude.{◌≡◌, ℕ, ◌+◌, ◌*◌, ◌<◌, ◌≤◌, List, ◌∷◌, length, Ok, Err, Result}
+use Rattle.std.specs.Prelude.{ℕ, ◌+◌, ◌*◌, ◌<◌, ◌≤◌, List, ◌∷◌, length, Ok, Err, Result}
 use Rattle.automaton.specs.Machines.{Machine}
 use Rattle.automaton.specs.Judging.{Node}
 use Rattle.exploration.specs.Verdicts.{AllFound, FirstFault, More}

@@ -1,8 +1,7 @@
 -- All states, then all arrows.
-use Rattle.sheet.specs.Views.{table_of}
 use Rattle.judge.specs.Tables.{words_in}
 use Rattle.judge.proofs.Entries.{some}
-use Rattle.judge.proofs.Plotting.{plot_begin, drawn_for}
+use Rattle.judge.proofs.Plotting.{drawn_for}
 use Rattle.judge.proofs.drawing.Plot.read_off.Goals as goal
 
 pub returns : goal.returns

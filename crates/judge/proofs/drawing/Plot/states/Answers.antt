@@ -8,7 +8,7 @@ use Rattle.judge.specs.Tables.{words_in}
 use Rattle.judge.specs.Plots.{fits_at}
 use Rattle.judge.proofs.Groups.{length_used, length_others, other_node}
 use Rattle.judge.proofs.Entries.{room, some}
-use Rattle.judge.proofs.Plotting.{bare_one, bare_more}
+use Rattle.judge.proofs.Plotting.{bare_more}
 use Rattle.judge.proofs.drawing.Plot.states.Goals as goal
 
 pub used-requires : goal.used-requires

@@ -1,5 +1,5 @@
 -- The entry that is found is the one that the letter leads to.
-use Rattle.std.proofs.Common.{◌≡◌, sym, arith}
+use Rattle.std.proofs.Common.{◌≡◌, arith}
 use Rattle.automaton.specs.Machines.{to}
 use Rattle.pattern.specs.Fits.{fitting}
 use Rattle.exploration.specs.Drawing.{drawing}

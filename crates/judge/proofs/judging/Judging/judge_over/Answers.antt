@@ -1,8 +1,7 @@
 -- What each verdict says of the sheet.
 use Rattle.std.proofs.Common.{refl, ◌∙◌, arith}
-use Rattle.judge.specs.Tables.{words_in}
 use Rattle.judge.proofs.Groups.{groups_words}
-use Rattle.judge.proofs.Verdicts.{complete, too_many, pairs_held, spellable, spelt_few, spelt_room, shows}
+use Rattle.judge.proofs.Verdicts.{complete, too_many, pairs_held, spellable, spelt_room, shows}
 use Rattle.judge.proofs.judging.Judging.judge_over.Goals as goal
 
 pub spell-size-requires : goal.spell-size-requires

@@ -1,5 +1,5 @@
 -- The table is sound at each stage; rows rise.
-use Rattle.std.proofs.Common.{◌≡◌, ◌-◌, ◌<◌, ◌≤◌, length}
+use Rattle.std.proofs.Common.{◌-◌, ◌<◌, ◌≤◌, length}
 use Rattle.exploration.specs.Cells.{Sound}
 use Rattle.judge.specs.Tables.{words_in, Same}
 use Rattle.judge.proofs.table.Table.explore.Given as goal

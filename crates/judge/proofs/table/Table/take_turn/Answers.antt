@@ -1,5 +1,5 @@
 -- What each outcome of a letter leaves.
-use Rattle.std.proofs.Common.{◌≡◌, ◌*◌, ◌≤◌, sym, ◌∙◌, ap, mul-le-mul_left, arith}
+use Rattle.std.proofs.Common.{◌≡◌, ◌*◌, ◌≤◌, sym, ◌∙◌, mul-le-mul_left, arith}
 use Rattle.automaton.specs.Machines.{dead, wrong, to}
 use Rattle.exploration.specs.Links.{node_at}
 use Rattle.exploration.proofs.Cells.{settle_dead, settle_wrong, settle_known, settle_new, settle_full, settle_trace}
