@@ -1,7 +1,7 @@
 -- The stages of a walk, where the code holds the table.
 use Rattle.std.proofs.Common.{◌≡◌, ℕ, ◌+◌, ◌≤◌, true, false, List, length, Some, None, Option, sym, ◌∙◌, arith}
 use Rattle.std.specs.Option.{is_some}
-use Rattle.automaton.specs.Machines.{Machine}
+use Rattle.automaton.specs.Machines.{Outcome, Machine}
 use Rattle.automaton.specs.Judging.{Node}
 use Rattle.exploration.specs.Links.{written}
 use Rattle.exploration.specs.Cells.{Sound, Among, NotAmong}
@@ -29,3 +29,7 @@ known c m n None f e = cc
 pub unknown : (c : List ℕ) (m : ℕ) (n : Node) (r : Option ℕ) → Finds c m n r → is_some r ≡ false → NotAmong c m n
 unknown c m n (Some k) f e = cc
 unknown c m n None f e = f
+
+-- what the code's step says of an entry
+pub stepped : (M : Machine Node) {p q : Node} {a : ℕ} {o : Outcome Node} → q ≡ p → o ≡ M.step q a → M.step p a ≡ o
+stepped M e h = cc

@@ -1,12 +1,10 @@
 -- What each outcome of a letter leaves.
-use Rattle.std.proofs.Common.{◌≡◌, ◌*◌, ◌≤◌, sym, ◌∙◌, mul-le-mul_left, arith}
-use Rattle.automaton.specs.Machines.{dead, wrong, to}
-use Rattle.exploration.specs.Links.{node_at}
+use Rattle.std.proofs.Common.{◌*◌, ◌≤◌, sym, ◌∙◌, mul-le-mul_left, arith}
 use Rattle.exploration.proofs.Cells.{settle_dead, settle_wrong, settle_known, settle_new, settle_full, settle_trace}
 use Rattle.judge.specs.Moves.{node_of}
 use Rattle.judge.specs.Tables.{words_in}
 use Rattle.judge.proofs.Groups.{length_words}
-use Rattle.judge.proofs.Turns.{moved, room, known, unknown}
+use Rattle.judge.proofs.Turns.{moved, room, known, unknown, stepped}
 use Rattle.judge.proofs.table.Table.take_turn.Goals as goal
 
 pub node-requires : goal.node-requires
@@ -25,9 +23,7 @@ push-requires-clause-link g c =
 
 pub returns-in-Err-clause-answer : goal.returns-in-Err-clause-answer
 returns-in-Err-clause-answer g c =
-    let w = words_in c.args.self.now in
-    let step = (g.M.Machine.meaning c.args.machine.now).step in
-    let e : step (node_at w c.args.row) c.args.letter ≡ wrong = cc (c.node.ensures.answer, c.in-Err.ensures.answer) in
+    let e = stepped (g.M.Machine.meaning c.args.machine.now) c.node.ensures.answer c.in-Err.ensures.answer in
     record {
       size = c.args.self.now.size;
       room = c.requires.sound.fits;
@@ -38,39 +34,24 @@ returns-in-Err-clause-answer g c =
 
 pub returns-in-Ok-None-clause-answer : goal.returns-in-Ok-None-clause-answer
 returns-in-Ok-None-clause-answer g c =
-    let w = words_in c.args.self.now in
-    let step = (g.M.Machine.meaning c.args.machine.now).step in
-    let h = rw c.in-Ok-None.field-0-is at c.in-Ok-None.ensures.answer in
-    let e : step (node_at w c.args.row) c.args.letter ≡ dead = cc (c.node.ensures.answer, h) in
+    let e = stepped (g.M.Machine.meaning c.args.machine.now) c.node.ensures.answer (rw c.in-Ok-None.field-0-is at c.in-Ok-None.ensures.answer) in
     (settle_dead c.requires.sound c.requires.entry e, c.requires.entry)
 
 pub returns-in-Ok-Some-clause-answer : goal.returns-in-Ok-Some-clause-answer
 returns-in-Ok-Some-clause-answer g c =
-    let w = words_in c.args.self.now in
-    let step = (g.M.Machine.meaning c.args.machine.now).step in
-    let n = node_of c.in-Ok-Some.node in
-    let h = rw c.in-Ok-Some.field-0-is at c.in-Ok-Some.ensures.answer in
-    let e : step (node_at w c.args.row) c.args.letter ≡ to n = cc (c.node.ensures.answer, h) in
-    (settle_known c.requires.sound c.requires.entry c.requires.spelt e (known w c.args.self.now.size n c.find.result c.find.ensures.answer (sym c.is_some.ensures ∙ c.if-is_some.true)), c.requires.entry)
+    let e = stepped (g.M.Machine.meaning c.args.machine.now) c.node.ensures.answer (rw c.in-Ok-Some.field-0-is at c.in-Ok-Some.ensures.answer) in
+    let k = known (words_in c.args.self.now) c.args.self.now.size (node_of c.in-Ok-Some.node) c.find.result c.find.ensures.answer (sym c.is_some.ensures ∙ c.if-is_some.true) in
+    (settle_known c.requires.sound c.requires.entry c.requires.spelt e k, c.requires.entry)
 
 pub returns-in-Ok-Some-2-clause-answer : goal.returns-in-Ok-Some-2-clause-answer
 returns-in-Ok-Some-2-clause-answer g c =
-    let w = words_in c.args.self.now in
-    let step = (g.M.Machine.meaning c.args.machine.now).step in
-    let n = node_of c.in-Ok-Some.node in
-    let h = rw c.in-Ok-Some.field-0-is at c.in-Ok-Some.ensures.answer in
-    let e : step (node_at w c.args.row) c.args.letter ≡ to n = cc (c.node.ensures.answer, h) in
-    record {
-      text = _;
-      more = settle_full c.requires.sound c.requires.entry c.requires.spelt e (unknown w c.args.self.now.size n c.find.result c.find.ensures.answer (sym c.is_some.ensures ∙ c.if-is_some.false)) (omega (arith, length_words c.args.self.now.entries.now));
-    }
+    let e = stepped (g.M.Machine.meaning c.args.machine.now) c.node.ensures.answer (rw c.in-Ok-Some.field-0-is at c.in-Ok-Some.ensures.answer) in
+    let u = unknown (words_in c.args.self.now) c.args.self.now.size (node_of c.in-Ok-Some.node) c.find.result c.find.ensures.answer (sym c.is_some.ensures ∙ c.if-is_some.false) in
+    record { text = _; more = settle_full c.requires.sound c.requires.entry c.requires.spelt e u (omega (arith, length_words c.args.self.now.entries.now)) }
 
 pub returns-in-Ok-Some-3-clause-answer : goal.returns-in-Ok-Some-3-clause-answer
 returns-in-Ok-Some-3-clause-answer g c =
-    let w = words_in c.args.self.now in
-    let step = (g.M.Machine.meaning c.args.machine.now).step in
-    let n = node_of c.in-Ok-Some.node in
-    let h = rw c.in-Ok-Some.field-0-is at c.in-Ok-Some.ensures.answer in
-    let e : step (node_at w c.args.row) c.args.letter ≡ to n = cc (c.node.ensures.answer, h) in
-    let new = settle_new c.requires.sound c.requires.entry c.requires.spelt e (unknown w c.args.self.now.size n c.find.result c.find.ensures.answer (sym c.is_some.ensures ∙ c.if-is_some.false)) (omega (arith, room c.args.self.now.entries.now c.requires.sound, length_words c.args.self.now.entries.now)) in
+    let e = stepped (g.M.Machine.meaning c.args.machine.now) c.node.ensures.answer (rw c.in-Ok-Some.field-0-is at c.in-Ok-Some.ensures.answer) in
+    let u = unknown (words_in c.args.self.now) c.args.self.now.size (node_of c.in-Ok-Some.node) c.find.result c.find.ensures.answer (sym c.is_some.ensures ∙ c.if-is_some.false) in
+    let new = settle_new c.requires.sound c.requires.entry c.requires.spelt e u (omega (arith, room c.args.self.now.entries.now c.requires.sound, length_words c.args.self.now.entries.now)) in
     (moved c.push.ensures.same.letters c.push.ensures.held c.push.ensures.size new, omega arith)
