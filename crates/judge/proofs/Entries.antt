@@ -1,6 +1,7 @@
 -- A complete table of the drawing machine draws a sheet: each letter leads to an entry, and the states suffice.
-use Rattle.std.proofs.Common.{◌≡◌, ℕ, zero, suc, ◌/◌, ◌<◌, ◌≤◌, Bool, true, false, ◌⊎◌, List, [], ◌∷◌, length, Some, None, Ok, Err, Option, Result, sym, refl, ◌∙◌, subst, inl, inr, arith}
+use Rattle.std.proofs.Common.{◌≡◌, ℕ, zero, suc, ◌<◌, ◌≤◌, Bool, true, false, ◌⊎◌, List, [], ◌∷◌, length, Some, None, Ok, Err, Option, Result, sym, refl, ◌∙◌, subst, inl, inr, arith}
 use Rattle.std.proofs.lemmas.Bool.{cases_lt}
+use Rattle.std.specs.Result.{is_ok}
 use Rattle.pattern.specs.Fits.{Fitting, fitting}
 use Rattle.automaton.specs.Automata.{Automaton}
 use Rattle.automaton.specs.Machines.{Outcome, dead, wrong, to, run}
@@ -14,28 +15,27 @@ use Rattle.exploration.proofs.Drawing.{drawing_is_right_lem}
 use Rattle.plan.specs.declared.Plan.{Plan}
 use Rattle.plan.specs.Views.{letters_of, patterns_of}
 use Rattle.plan.proofs.Soundness.{sound}
-use Rattle.judge.specs.Exploring.{Completes, Fails, Overflows, Finds}
-use Rattle.judge.specs.Plots.{arrow_to, Inside}
+use Rattle.judge.specs.Memory.{groups_in}
+use Rattle.judge.specs.Exploring.{Completes, Fails, Overflows, Explored}
+use Rattle.judge.specs.declared.explore.Stop.{Stop}
+use Rattle.judge.specs.declared.explore.Stop.TheVariants.{Faulty, Full}
+use Rattle.judge.specs.Tables.{Finds}
+use Rattle.judge.specs.Tables.{words_in}
+use Rattle.judge.specs.Plots.{arrow_to, Complete}
+use Rattle.judge.specs.declared.drawing.Plot.{Plot}
+use Rattle.judge.proofs.Groups.{length_words}
 use Rattle.sheet.specs.declared.Sheet.{Sheet}
-use Rattle.judge.specs.declared.refusals.DrawRefusal.TheVariants.{Words, States}
-use Rattle.judge.specs.declared.refusals.DrawError.{DrawError}
-use Rattle.judge.specs.declared.refusals.DrawError.TheVariants.{Refused, NoMemory}
-use Rattle.judge.specs.Drawings.{StatesSuffice, HasWords, DrawnWith, DrawAnswers}
+use Rattle.judge.specs.Refusals.{DrawError}
+use Rattle.judge.specs.Drawings.{StatesSuffice, DrawnFor, DrawnWith, MadeUnlessMemory}
 
 -- no letter is a fault
-clash : ◌≡◌ {A = Outcome Node} dead wrong → ⊥
-clash h = let z : ◌≡◌ {A = ℕ} 0 1 = cc in omega arith
-
-other : {n : Node} → ◌≡◌ {A = Outcome Node} (to n) wrong → ⊥
-other h = let z : ◌≡◌ {A = ℕ} 0 1 = cc in omega arith
-
 faultless : (f : Fitting) (n : Node) (a : ℕ) → (drawing f).step n a ≡ wrong → ⊥
 unfolding drawing
 faultless f n a h = go (grown f (n.1, n.2) a) (nowhere (grown f (n.1, n.2) a)) refl h
   where
     go : (x : ℕ × ℕ) (b : Bool) → nowhere x ≡ b → drawn_to x ≡ wrong → ⊥
-    go x true e h = clash (rw e at h)
-    go x false e h = other (rw e at h)
+    go x true e h = let z = rw e at h in cc
+    go x false e h = let z = rw e at h in cc
 
 pub never_fails : (f : Fitting) {K : ℕ} {c : List ℕ} {i a : ℕ} → Fails K (drawing f) c i a → ⊥
 never_fails f {K} {c} {i} {a} h =
@@ -46,10 +46,6 @@ never_fails f {K} {c} {i} {a} h =
 abbrev pub FoundIn : Table Node → Node → Option ℕ → Type 0
 FoundIn T n None = (k : ℕ) → k < T.size → T.node k ≡ n → ⊥
 FoundIn T n (Some k) = (k < T.size) × (T.node k ≡ n)
-
-pub inside : (c : List ℕ) (size : ℕ) (n : Node) (r : Option ℕ) → Finds c size n r → Inside size r
-inside c size n None h = tt
-inside c size n (Some k) h = h.0
 
 pub found_in : (K : ℕ) (c : List ℕ) (size : ℕ) (n : Node) (r : Option ℕ) → Finds c size n r → FoundIn (cells K c size) n r
 found_in K c size n None h = h
@@ -67,6 +63,13 @@ drawn_to_lem f n a x e h = subst (λ (y : ℕ × ℕ). to (0, x.0, x.1) ≡ draw
 -- a complete table has the entry of the empty word
 pub some_entry : (K : ℕ) (f : Fitting) (c : List ℕ) (size : ℕ) → Completes K (drawing f) c size → 0 < size
 some_entry K f c size h = let x = h.all.every [] (drawing f).start tt refl in omega (arith, x.1)
+
+-- of a complete table with its plan: there is an entry, and no more are in use than there are
+pub some : (p : Plot) → Complete p → 1 ≤ p.table.now.size
+some p h = some_entry (letters_of p.plan.now) (fitting (patterns_of p.plan.now)) (words_in p.table.now) p.table.now.size h.all
+
+pub room : (p : Plot) → Complete p → p.table.now.size ≤ length p.table.now.entries.now
+room p h = omega (arith, h.all.room, length_words p.table.now.entries.now)
 
 -- where a letter leads from an entry, an entry is found
 module _ (K : ℕ) (f : Fitting) (T : Table Node) (all : AllFound K (drawing f) T) where
@@ -120,11 +123,10 @@ module _ (K : ℕ) (f : Fitting) (T : Table Node) (all : AllFound K (drawing f) 
       prefixed (suc k) z l = refl
 
 module _ (plan : Plan) {K : ℕ} {c : List ℕ} where
-  pub over : Overflows K (drawing (fitting (patterns_of plan))) c → K ≡ letters_of plan → length c ≡ 1020 → StatesSuffice plan → ⊥
-  over h e same =
+  over : Overflows K (drawing (fitting (patterns_of plan))) c → K ≡ letters_of plan → groups_in c ≡ 255 → StatesSuffice plan → ⊥
+  over h e n =
       let o = subst (λ (k : ℕ). Overflows k (drawing (fitting (patterns_of plan))) c) e h in
-      let n : length c / 4 ≡ 255 = omega arith in
-      rw (← n) ((drawing_is_right_lem (letters_of plan) (patterns_of plan) (sound plan).well).overflow (length c / 4) o.text o.more)
+      rw (← n) ((drawing_is_right_lem (letters_of plan) (patterns_of plan) (sound plan).well).overflow (groups_in c) o.text o.more)
 
   pub suffice : {size : ℕ} → Completes K (drawing (fitting (patterns_of plan))) c size → K ≡ letters_of plan → size ≤ 255 → StatesSuffice plan
   suffice {size} h e few =
@@ -137,9 +139,13 @@ module _ (plan : Plan) {K : ℕ} {c : List ℕ} where
         few = few;
       }
 
--- with memory enough
-pub answered : (plan : Plan) (memory : List ℕ) (r : Result Sheet DrawError) → HasWords memory → DrawnWith plan r → DrawAnswers plan memory r
-answered plan memory (Ok sheet) h d = (h, d)
-answered plan memory (Err (Refused Words)) h d = absurd d
-answered plan memory (Err (Refused States)) h d = (h, d)
-answered plan memory (Err NoMemory) h d = (h, d)
+-- where the exploration stops, it is for want of states
+pub stopped : (plan : Plan) (K : ℕ) (c : List ℕ) (size : ℕ) (r : Result (Unit {0}) Stop) → Explored K (drawing (fitting (patterns_of plan))) c size r → is_ok r ≡ false → K ≡ letters_of plan → groups_in c ≡ 255 → StatesSuffice plan → ⊥
+stopped plan K c size (Ok _) h f e n = cc
+stopped plan K c size (Err (Faulty i a)) h f e n = absurd (never_fails (fitting (patterns_of plan)) h)
+stopped plan K c size (Err Full) h f e n = over plan h e n
+
+-- where want of memory is the only error
+pub made : (plan : Plan) (r : Result Sheet DrawError) → MadeUnlessMemory (DrawnFor plan) r → StatesSuffice plan → DrawnWith plan r
+made plan (Ok sheet) h s = h
+made plan (Err e) h s = rw h s

@@ -1,7 +1,7 @@
 -- A word in a buffer, with one letter more at its end.
-use Rattle.std.proofs.Common.{◌≡◌, ℕ, zero, suc, ◌+◌, ◌<◌, ◌≤◌, List, [], ◌∷◌, ◌++◌, reverse, length, drop, set, sym, refl, ap, ◌∙◌, arith}
+use Rattle.std.proofs.Common.{◌≡◌, ℕ, ◌+◌, ◌<◌, ◌≤◌, List, [], ◌∷◌, ◌++◌, reverse, length, drop, set, sym, ap, ◌∙◌, arith}
 use Rattle.std.proofs.lemmas.List.{drop_more, set_at, length-reverse, reverse-append, append_assoc, length-append, length-drop}
-use Rattle.exploration.specs.Links.{spell, parent_at, letter_at}
+use Rattle.exploration.specs.Links.{parent_at, letter_at}
 use Rattle.exploration.specs.Cells.{text_at}
 use Rattle.exploration.proofs.Links.{spell_last}
 use Rattle.judge.specs.Words.{Spellable, Spelt}
@@ -26,15 +26,6 @@ pub as_long : (t before w : List ℕ) → w ≡ reverse t ++ drop (length t) bef
 as_long t before w h l =
     ap length h ∙ length-append (reverse t) (drop (length t) before) ∙ omega (arith, length-reverse t, length-drop (length t) before)
 
--- a text has no more letters than its entry's number says
-spell_short : (p l : ℕ → ℕ) (f k : ℕ) → length (spell p l f k) ≤ f
-spell_short p l zero k = omega arith
-spell_short p l (suc f) zero = omega arith
-spell_short p l (suc f) (suc k) = omega (arith, spell_short p l f (p (suc k)))
-
-pub spelt_none : (K : ℕ) (c : List ℕ) (at : ℕ) (word : List ℕ) → at ≡ 0 → Spelt K c at word word 0
-spelt_none K c at word e = rw e (record { length_is = refl; held = refl })
-
 module _ {K : ℕ} {c : List ℕ} {at : ℕ} {word : List ℕ} (s : Spellable K c at word) (pos : 0 < at) where
   pub parent_below : parent_at K c at < at
   parent_below = s.linked.links at pos (omega arith)
@@ -55,9 +46,6 @@ module _ {K : ℕ} {c : List ℕ} {at : ℕ} {word : List ℕ} (s : Spellable K 
       }
 
   module _ {w : List ℕ} {r : ℕ} (h : Spelt K c (parent_at K c at) word w r) where
-    pub spelt_short : r < at
-    spelt_short = omega (arith, parent_below, h.length_is, spell_short (parent_at K c) (letter_at K c) (parent_at K c at) (parent_at K c at))
-
     pub spelt_room : r < length w
     spelt_room = omega (arith, h.length_is, parent_room, as_long (text_at K c (parent_at K c at)) word w h.held (omega (arith, parent_room)))
 

@@ -1,4 +1,5 @@
 -- The files of lemmas.
+pub mod Groups
 pub mod Letters
 pub mod States
 pub mod Turns

@@ -1,5 +1,5 @@
 -- States and arrows that are added to a table, and the sheet that it is in the end.
-use Rattle.std.proofs.Common.{◌≡◌, ℕ, zero, suc, ◌+◌, ◌<◌, ◌≤◌, Bool, true, false, cond, ◌≢◌, ◌⊎◌, List, length, get_or, Ok, Err, Result, sym, refl, ap, ◌∙◌, subst, inl, inr, arith, length-set, below_more}
+use Rattle.std.proofs.Common.{◌≡◌, ℕ, zero, suc, ◌+◌, ◌<◌, Bool, true, false, cond, ◌≢◌, ◌⊎◌, List, length, get_or, Ok, sym, refl, ap, ◌∙◌, subst, inl, inr, arith, length-set, below_more}
 use Rattle.std.proofs.lemmas.List.{get_or_append_left, get_or_push, length_push, get_or-set_same, get_or-set_other, get_or-replicate, length-replicate}
 use Rattle.std.proofs.lemmas.Bool.{cases_eq, le-leb, lt-ltb}
 use Rattle.pattern.specs.Patterns.{shortest}
@@ -22,15 +22,9 @@ use Rattle.judge.specs.Drawings.{DrawnFor}
 
 -- ---- states
 
-refused : {A : Type 0} (e : SheetRefusal) (t : A) → ◌≡◌ {A = Result A SheetRefusal} (Err e) (Ok t) → ⊥
-refused e t h = let z : ◌≡◌ {A = ℕ} 0 1 = cc in omega arith
-
-ok_inj : (s t : Table) → ◌≡◌ {A = Result Table SheetRefusal} (Ok s) (Ok t) → s ≡ t
-ok_inj s t h = cc
-
 asked : (b : Bool) (e : SheetRefusal) (s t : Table) → ask b e (Ok s) ≡ Ok t → s ≡ t
-asked true e s t h = ok_inj s t h
-asked false e s t h = absurd (refused e t h)
+asked true e s t h = cc
+asked false e s t h = cc
 
 module _ (plan : Plan) (c : List ℕ) where
   pub bare_one : (b : Bool) (e : SheetRefusal) (K s : ℕ) (t : Table) → ask b e (Ok (single K s)) ≡ Ok t → K ≡ letters_of plan → s ≡ shortest (patterns_of plan) → Bare plan c 1 t
@@ -100,23 +94,6 @@ module _ (plan : Plan) (c : List ℕ) where
       later : (k b : ℕ) → k < count → b < letters_of plan → Later i (a + 1) k b → get_or (state u k).arrows b 0 ≡ 0
       later k b l m (inl less) = kept k b (omega arith) ∙ h.later k b l m (inl less)
       later k b l m (inr d) = subst (λ (z : ℕ). get_or (state u z).arrows b 0 ≡ 0) (sym d.0) (r.same_row b (omega (arith, d.1)) ∙ h.later i b (subst (λ (z : ℕ). z < count) d.0 l) m (inr (refl, omega (arith, d.1))))
-
-  -- the letter leads nowhere
-  pub plot_none : (count i a : ℕ) (t : Table) → Plotted plan c count i a t → i < count → a < letters_of plan → Goes count i a 0 → Plotted plan c count i (a + 1) t
-  plot_none count i a t h l m g = plot count i a 0 t t h r g
-    where
-      r : Redrawn count i a 0 t t
-      r = record {
-        letters = refl;
-        shortest = refl;
-        size = refl;
-        marks = λ k. refl;
-        prefixes = λ k. refl;
-        wide = λ k. refl;
-        here = h.later i a l m (inr (refl, omega arith));
-        same_row = λ b ne. refl;
-        other_rows = λ k ne. refl;
-      }
 
   redrawn : (count i a x : ℕ) (t : Table) → i < length t.states → a < length (state t i).arrows → Redrawn count i a x t (redirected t (suc i) a x)
   redrawn count i a x t l m =
@@ -191,31 +168,6 @@ module _ (plan : Plan) (c : List ℕ) where
       never : (k b : ℕ) → Done 0 0 k b → ⊥
       never k b (inl less) = omega arith
       never k b (inr d) = omega (arith, d.1)
-
-  pub plot_row : (count i a : ℕ) (t : Table) → Plotted plan c count i a t → letters_of plan ≤ a → Plotted plan c count (i + 1) 0 t
-  plot_row count i a t h all =
-      record {
-        letters = h.letters;
-        shortest = h.shortest;
-        size = h.size;
-        marks = h.marks;
-        prefixes = h.prefixes;
-        wide = h.wide;
-        done = λ k b l m d. h.done k b l m (was k b m d);
-        later = λ k b l m d. h.later k b l m (inl (past k b d));
-      }
-    where
-      was : (k b : ℕ) → b < letters_of plan → Done (i + 1) 0 k b → Done i a k b
-      was k b m (inl less) = split (cases_eq k i)
-        where
-          split : (k ≡ i) ⊎ (k ≡ i → ⊥) → Done i a k b
-          split (inl e) = inr (e, omega arith)
-          split (inr ne) = inl (omega arith)
-      was k b m (inr d) = absurd (omega (arith, d.1))
-
-      past : (k b : ℕ) → Later (i + 1) 0 k b → i < k
-      past k b (inl less) = omega arith
-      past k b (inr d) = omega (arith, d.0)
 
   read_off : (count : ℕ) (t : Table) → Plotted plan c count count 0 t → 0 < count → ReadOff (letters_of plan) (fitting (patterns_of plan)) (cells (letters_of plan) c count) (automaton_in t)
   unfolding entry_at

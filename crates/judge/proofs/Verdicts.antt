@@ -29,22 +29,22 @@ module _ (plan : Plan) (sheet : Sheet) where
   short_at c i a h = let m = before_wrong M.step (run M (text_at (letters_of plan) c i)) a h.first.faulty in tell.short _ m.0 h.first.lettered.1 m.1
 
   module _ (memory : List ℕ) {K : ℕ} {c : List ℕ} where
-    pub complete : {size : ℕ} → Completes K M c size → K ≡ letters_of plan → length c ≡ length memory → PairsHeld plan sheet memory × Faultless plan sheet
+    pub complete : {size : ℕ} → Completes K M c size → K ≡ letters_of plan → groups_in c ≡ groups_in memory → PairsHeld plan sheet memory × Faultless plan sheet
     complete {size} h e same =
         let few : size ≤ groups_in memory = omega (arith, h.room) in
         let all = (subst (λ (k : ℕ). Completes k M c size) e h).all in
         (((tell.complete _ all).1 (groups_in memory)).1 few, (tell.complete _ all).0)
 
-    pub too_many : Overflows K M c → K ≡ letters_of plan → length c ≡ length memory → PairsHeld plan sheet memory → ⊥
-    too_many h e same = let n : groups_in c ≡ groups_in memory = omega arith in
+    pub too_many : Overflows K M c → K ≡ letters_of plan → groups_in c ≡ groups_in memory → PairsHeld plan sheet memory → ⊥
+    too_many h e same =
         let over = subst (λ (k : ℕ). Overflows k M c) e h in
-        rw (← n) (tell.overflow (groups_in c) over.text over.more)
+        rw (← same) (tell.overflow (groups_in c) over.text over.more)
 
     module _ {i a : ℕ} (h : Fails K M c i a) (e : K ≡ letters_of plan) where
       fails : Fails (letters_of plan) M c i a
       fails = subst (λ (k : ℕ). Fails k M c i a) e h
 
-      pub pairs_held : length c ≡ length memory → PairsHeld plan sheet memory
+      pub pairs_held : groups_in c ≡ groups_in memory → PairsHeld plan sheet memory
       pairs_held same =
           let few : fails.size ≤ groups_in memory = omega (arith, fails.room) in
           (tell.fault _ _ fails.first).1 (groups_in memory) few

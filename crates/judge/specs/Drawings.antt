@@ -10,8 +10,8 @@ use Rattle.sheet.specs.declared.Sheet.{Sheet}
 use Rattle.sheet.specs.Views.{table_of, automaton_of}
 use Rattle.judge.specs.Memory.{Wiped}
 use Rattle.judge.specs.declared.refusals.DrawRefusal.TheVariants.{Words, States}
-use Rattle.judge.specs.declared.refusals.DrawError.{DrawError}
-use Rattle.judge.specs.declared.refusals.DrawError.TheVariants.{Refused, NoMemory}
+use Rattle.judge.specs.Refusals.{DrawError}
+use Rattle.sheet.specs.declared.refusals.Unmade.TheVariants.{Refused, NoMemory}
 
 -- the questions, in their order
 
@@ -28,6 +28,11 @@ pub record DrawnFor (plan : Plan) (sheet : Sheet) : Type 0 where
   pub letters : (table_of sheet).letters ≡ letters_of plan
   pub shortest : (table_of sheet).shortest ≡ shortest (patterns_of plan)
   pub drawn : Drawn (letters_of plan) (images_of (patterns_of plan)) (fitting (patterns_of plan)) (length (table_of sheet).states) (automaton_of sheet)
+
+-- a sheet of which P holds, unless memory for it is wanting
+abbrev pub MadeUnlessMemory : (Sheet → Type 0) → Result Sheet DrawError → Type 0
+MadeUnlessMemory P (Ok sheet) = P sheet
+MadeUnlessMemory P (Err e) = e ≡ NoMemory
 
 -- what is answered where the memory has its words
 abbrev pub DrawnWith : Plan → Result Sheet DrawError → Type 0

@@ -1,6 +1,7 @@
 -- The files of definitions, lowest first.
 pub mod Memory
 pub mod Moves
+pub mod Tables
 pub mod Exploring
 pub mod Words
 pub mod Plots

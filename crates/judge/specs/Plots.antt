@@ -8,6 +8,9 @@ use Rattle.exploration.specs.Drawing.{drawing, Leads}
 use Rattle.plan.specs.declared.Plan.{Plan}
 use Rattle.plan.specs.Views.{letters_of, patterns_of}
 use Rattle.sheet.specs.Tables.{Entry, Table, blank, plain, arrow_of}
+use Rattle.judge.specs.Tables.{words_in}
+use Rattle.judge.specs.Exploring.{Completes}
+use Rattle.judge.specs.declared.drawing.Plot.{Plot}
 
 -- the fits of entry k
 abbrev pub fits_at : List ℕ → ℕ → ℕ × ℕ
@@ -53,3 +56,20 @@ arrow_to (Some k) = Some (suc k)
 abbrev pub Inside : ℕ → Option ℕ → Type 0
 Inside count None = Unit {0}
 Inside count (Some k) = k < count
+
+-- ---- the same of a plot, a plan with a table
+
+-- the table is complete, with at most as many entries as a sheet can have states
+pub record Complete (p : Plot) : Type 0 where
+  pub few : p.table.now.size ≤ 255
+  pub all : Completes (letters_of p.plan.now) (drawing (fitting (patterns_of p.plan.now))) (words_in p.table.now) p.table.now.size
+
+abbrev pub BareFor : Plot → Table → Type 0
+BareFor p t = Bare p.plan.now (words_in p.table.now) p.table.now.size t
+
+abbrev pub PlottedFor : Plot → ℕ → ℕ → Table → Type 0
+PlottedFor p i a t = Plotted p.plan.now (words_in p.table.now) p.table.now.size i a t
+
+-- the letter a of entry i leads to this arrow
+abbrev pub LeadsFor : Plot → ℕ → ℕ → Option ℕ → Type 0
+LeadsFor p i a x = Leads (cells (letters_of p.plan.now) (words_in p.table.now) p.table.now.size) ((drawing (fitting (patterns_of p.plan.now))).step (node_at (words_in p.table.now) i) a) x

@@ -1,87 +1,60 @@
 //! The exploration: all words in word order, as far as they lead to new nodes and the memory has room for these.
 ghost use Rattle.std.specs.Prelude.{◌≡◌, ℕ, ◌+◌, ◌*◌, ◌<◌, ◌≤◌, length};
 ghost use Rattle.exploration.specs.Cells.{Sound};
+ghost use Rattle.judge.specs.Tables.{words_in, Same};
 ghost use Rattle.judge.specs.Exploring.{After, Explored};
 
-use crate::groups::{GROUP, find, put};
-use crate::machine::{Machine, Move};
+use crate::machine::{Machine, Wrong};
+use crate::table::Table;
 
-/// What a letter of an entry comes to.
-#[derive(Clone, Copy)]
-pub(crate) enum Turn {
-    /// The exploration goes on with a table of so many entries.
-    On(usize),
-    /// The letter shows a fault.
-    Fault,
-    /// It leads to a new node, and there is no room.
+/// Why an exploration stops before it has found all nodes.
+#[derive(Clone, Copy, Debug, PartialEq, Eq)]
+pub(crate) enum Stop {
+    /// This letter of this entry is the first fault.
+    Faulty(usize, u8),
+    /// There are more nodes than the table has room for.
     Full,
 }
 
-/// What an exploration comes to.
-#[derive(Clone, Copy)]
-pub(crate) enum Answer {
-    /// The table has all nodes, and is of so many entries.
-    Complete(usize),
-    /// This letter of this entry is the first fault.
-    Faulty(usize, u8),
-    /// There are more nodes than the memory has room for.
-    TooMany,
-}
-
-/// Settles a letter of entry `row`.
-fn take_turn<M: Machine>(
-    machine: &M,
-    cells: &mut [u64],
-    letters: u8,
-    size: usize,
-    row: usize,
-    letter: u8,
-) -> Turn
-    requires sound { Sound letters (M.Machine.meaning machine.now) cells.old size row letter }
-    requires entry { row < size }
-    requires spelt { letter < letters }
-    requires few { letters ≤ 32 }
-    ensures answer { After letters (M.Machine.meaning machine.now) cells.new row letter result }
-{
-    let room = cells.len() / GROUP;
-    let fits = (cells[4 * row + 2], cells[4 * row + 3]);
-    match machine.step(cells[4 * row + 1], fits, letter) {
-        Move::Dead => Turn::On(size),
-        Move::Wrong => Turn::Fault,
-        Move::To(state, fits) => match find(cells, size, state, fits) {
-            Some(_) => Turn::On(size),
-            None => {
-                if size < room {
-                    put(cells, letters, size, row, letter, state, fits);
-                    Turn::On(size + 1)
-                } else {
-                    Turn::Full
-                }
+impl Table<'_> {
+    /// Settles a letter of entry `row`.
+    fn take_turn<M: Machine>(&mut self, machine: &M, row: usize, letter: u8) -> Result<(), Stop>
+        requires sound { Sound self.old.letters (M.Machine.meaning machine.now) (words_in self.old) self.old.size row letter }
+        requires entry { row < self.old.size }
+        requires spelt { letter < self.old.letters }
+        requires few { self.old.letters ≤ 32 }
+        ensures answer { After self.new.letters (M.Machine.meaning machine.now) (words_in self.new) self.new.size row letter result }
+        ensures same { Same self.old self.new }
+    {
+        match machine.step(self.node(row), letter) {
+            Err(Wrong) => Err(Stop::Faulty(row, letter)),
+            Ok(None) => Ok(()),
+            Ok(Some(node)) if self.find(node).is_some() => Ok(()),
+            Ok(Some(_)) if self.size == self.entries.len() => Err(Stop::Full),
+            Ok(Some(node)) => {
+                self.push(row, letter, node);
+                Ok(())
             }
-        },
-    }
-}
-
-/// Explores the machine over so many letters, in word order.
-pub(crate) fn explore<M: Machine>(machine: &M, cells: &mut [u64], letters: u8) -> Answer
-    requires room { 4 ≤ length cells.old }
-    requires few { letters ≤ 32 }
-    ensures answer { Explored letters (M.Machine.meaning machine.now) cells.new result }
-{
-    put(cells, letters, 0, 0, 0, machine.start(), (0, 0));
-    let mut size: usize = 1;
-    let mut row: usize = 0;
-    while row < size {
-        let mut letter: u8 = 0;
-        while letter < letters {
-            match take_turn(machine, cells, letters, size, row, letter) {
-                Turn::On(grown) => size = grown,
-                Turn::Fault => return Answer::Faulty(row, letter),
-                Turn::Full => return Answer::TooMany,
-            }
-            letter += 1;
         }
-        row += 1;
     }
-    Answer::Complete(size)
+
+    /// Explores the machine, in word order, in an empty table.
+    pub(crate) fn explore<M: Machine>(&mut self, machine: &M) -> Result<(), Stop>
+        requires empty { self.old.size ≡ 0 }
+        requires room { 1 ≤ length self.old.entries.now }
+        requires few { self.old.letters ≤ 32 }
+        ensures answer { Explored self.new.letters (M.Machine.meaning machine.now) (words_in self.new) self.new.size result }
+        ensures same { Same self.old self.new }
+    {
+        self.push(0, 0, machine.start());
+        // The rows are counted, since the table grows while they are walked; a letter is a number.
+        let mut row = 0;
+        while row < self.size {
+            for letter in 0..self.letters {
+                self.take_turn(machine, row, letter)?;
+            }
+            row += 1;
+        }
+        Ok(())
+    }
 }

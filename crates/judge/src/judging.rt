@@ -9,13 +9,12 @@ ghost use Rattle.judge.specs.Judged.{Judged, Answers};
 ghost use Rattle.judge.specs.Moves.{outcome};
 
 use crate::JudgeRefusal;
-use crate::explore::{Answer, explore};
-use crate::groups::GROUP;
-use crate::machine::{Machine, Move, grown, is_nowhere};
+use crate::explore::Stop;
+use crate::machine::{Machine, Node, Wrong, grown, is_nowhere};
 use crate::memory::Scratch;
-use crate::spelling::spell;
+use crate::table::{GROUP, Table};
 use plan::Plan;
-use sheet::{MOST_STATES, START, Sheet, StateNumber};
+use sheet::{START, Sheet, StateNumber};
 
 /// How many bytes the buffer for a wrong word must have: no word that is not wrong and reaches a state has more than 64 letters.
 pub const WORD_BYTES: usize = 65;
@@ -27,35 +26,60 @@ struct Judging<'p, 's> {
     sheet: &'s Sheet,
 }
 
-/// The state that the letter leads to, if the state is one of the sheet's and has an arrow there.
-fn follow(sheet: &Sheet, state: u64, letter: u8) -> Option<StateNumber>
-    ensures answer { result ≡ (automaton_of sheet.now).arrow state letter }
-{
-    if state > MOST_STATES as u64 {
-        return None;
+impl<'p, 's> Judging<'p, 's> {
+    /// The state that the letter leads to, if the state is one of the sheet's and has an arrow there.
+    fn follow(&self, state: u64, letter: u8) -> Option<StateNumber>
+        ensures answer { result ≡ (automaton_of self.now.sheet.now).arrow state letter }
+    {
+        self.sheet
+            .follow(StateNumber::try_from(state).ok()?, letter)
     }
-    sheet.follow(state as StateNumber, letter)
-}
 
-/// Whether both marks of the state are those of a word with these fits.
-fn agrees(plan: &Plan, sheet: &Sheet, state: StateNumber, fits: (u64, u64)) -> bool
-    ensures answer { result ≡ ((automaton_of sheet.now).marks state == (fitting (patterns_of plan.now)).marks fits && beq ((automaton_of sheet.now).prefix state) ((fitting (patterns_of plan.now)).prefix fits)) }
-{
-    sheet.marks(state) == plan.marks(fits) && sheet.is_prefix(state) == plan.is_prefix(fits)
-}
+    /// Whether both marks of the state are those of a word with these fits.
+    fn agrees(&self, state: StateNumber, fits: (u64, u64)) -> bool
+        ensures answer { result ≡ ((automaton_of self.now.sheet.now).marks state == (fitting (patterns_of self.now.plan.now)).marks fits && beq ((automaton_of self.now.sheet.now).prefix state) ((fitting (patterns_of self.now.plan.now)).prefix fits)) }
+    {
+        self.sheet.marks(state) == self.plan.marks(fits)
+            && self.sheet.is_prefix(state) == self.plan.is_prefix(fits)
+    }
 
-/// What a word comes to that has these fits and reaches this state, or none.
-fn settle(plan: &Plan, sheet: &Sheet, reached: Option<StateNumber>, fits: (u64, u64)) -> Move
-    ensures answer { outcome result ≡ settled (fitting (patterns_of plan.now)) (automaton_of sheet.now) reached fits }
-{
-    let nowhere = is_nowhere(fits);
-    match reached {
-        None => { if nowhere { Move::Dead } else { Move::Wrong } }
-        Some(state) => {
-            if nowhere || !agrees(plan, sheet, state, fits) {
-                Move::Wrong
-            } else {
-                Move::To(state as u64, fits)
+    /// What a word comes to that has these fits and reaches this state, or none.
+    fn settle(&self, reached: Option<StateNumber>, fits: (u64, u64)) -> Result<Option<Node>, Wrong>
+        ensures answer { outcome result ≡ settled (fitting (patterns_of self.now.plan.now)) (automaton_of self.now.sheet.now) reached fits }
+    {
+        match reached {
+            None if is_nowhere(fits) => Ok(None),
+            Some(state) if !is_nowhere(fits) && self.agrees(state, fits) => Ok(Some(Node {
+                state: state as u64,
+                fits,
+            })),
+            _ => Err(Wrong),
+        }
+    }
+
+    /// Judges over the words of the memory, whatever they hold.
+    fn judge_over(&self, cells: &mut [u64], word: &mut [u8]) -> Result<(), JudgeRefusal>
+        ensures answer { Answers self.now.plan.now self.now.sheet.now cells.old word.old word.new result }
+    {
+        let letters = self.plan.letters();
+        if self.sheet.letters() != letters {
+            return Err(JudgeRefusal::Letters);
+        }
+        if self.sheet.shortest() != self.plan.shortest() {
+            return Err(JudgeRefusal::Shortest);
+        }
+        if word.len() < WORD_BYTES || cells.len() < GROUP {
+            return Err(JudgeRefusal::Room);
+        }
+        let mut table = Table::over(cells, letters);
+        // A fault is refused with its word, which is spelt from the table: more than a conversion of the error.
+        match table.explore(self) {
+            Ok(()) => Ok(()),
+            Err(Stop::Full) => Err(JudgeRefusal::Pairs),
+            Err(Stop::Faulty(entry, letter)) => {
+                let size = table.spell(entry, word);
+                word[size] = letter;
+                Err(JudgeRefusal::Word(size + 1))
             }
         }
     }
@@ -64,48 +88,16 @@ fn settle(plan: &Plan, sheet: &Sheet, reached: Option<StateNumber>, fits: (u64, 
 impl<'p, 's> Machine for Judging<'p, 's> {
     ghost meaning = { λ m. judging_machine (fitting (patterns_of m.plan.now)) (automaton_of m.sheet.now) };
 
-    fn start(&self) -> u64 {
-        START as u64
-    }
-
-    fn step(&self, state: u64, fits: (u64, u64), letter: u8) -> Move {
-        let fits = grown(self.plan, fits, letter);
-        settle(
-            self.plan,
-            self.sheet,
-            follow(self.sheet, state, letter),
-            fits,
-        )
-    }
-}
-
-/// Judges over the words of the memory, whatever they hold.
-fn judge_over(
-    plan: &Plan,
-    sheet: &Sheet,
-    cells: &mut [u64],
-    word: &mut [u8],
-) -> Result<(), JudgeRefusal>
-    ensures answer { Answers plan.now sheet.now cells.old word.old word.new result }
-{
-    let letters = plan.letters();
-    if sheet.letters() != letters {
-        return Err(JudgeRefusal::Letters);
-    }
-    if sheet.shortest() != plan.shortest() {
-        return Err(JudgeRefusal::Shortest);
-    }
-    if word.len() < WORD_BYTES || cells.len() < GROUP {
-        return Err(JudgeRefusal::Room);
-    }
-    match explore(&Judging { plan, sheet }, cells, letters) {
-        Answer::Complete(_) => Ok(()),
-        Answer::TooMany => Err(JudgeRefusal::Pairs),
-        Answer::Faulty(entry, letter) => {
-            let size = spell(cells, letters, entry, word);
-            word[size] = letter;
-            Err(JudgeRefusal::Word(size + 1))
+    fn start(&self) -> Node {
+        Node {
+            state: START as u64,
+            fits: (0, 0),
         }
+    }
+
+    fn step(&self, node: Node, letter: u8) -> Result<Option<Node>, Wrong> {
+        let fits = grown(self.plan, node.fits, letter);
+        self.settle(self.follow(node.state, letter), fits)
     }
 }
 
@@ -119,5 +111,5 @@ pub fn judge(
     ensures judged { Judged plan.now sheet.now memory.old word.old memory.new word.new result }
 {
     let guard = Scratch { words: memory };
-    judge_over(plan, sheet, guard.words, word)
+    Judging { plan, sheet }.judge_over(guard.words, word)
 }

@@ -3,12 +3,12 @@
 
 mod drawing;
 mod explore;
-mod groups;
 mod judging;
 mod machine;
 mod memory;
 pub mod refusals;
 mod spelling;
+mod table;
 
 pub use drawing::{DRAW_WORDS, draw};
 pub use judging::{WORD_BYTES, judge};

@@ -8,20 +8,11 @@ pub struct Scratch<'a> {
     pub words: &'a mut [u64],
 }
 
-/// Wipes the words.
-fn wipe(words: &mut [u64])
-    ensures wiped { Wiped words.old words.new }
-{
-    for word in words.iter_mut() {
-        *word = 0;
-    }
-}
-
 impl Drop for Scratch<'_> {
     fn drop(self)
         ensures wiped { Wiped self.entry.words.now self.exit.0.now }
     {
-        wipe(self.words);
-        let Scratch { words: _ } = self;
+        let Scratch { words } = self;
+        words.fill(0);
     }
 }

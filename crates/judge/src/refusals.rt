@@ -1,6 +1,9 @@
 //! Why a sheet is not accepted, or not drawn.
 ghost use Rattle.std.specs.Prelude.{◌≡◌};
 ghost use Rattle.judge.specs.Refusals.{number_of, draw_number_of};
+ghost use Rattle.sheet.specs.declared.refusals.Unmade.TheVariants.{Refused as RefusedFor};
+
+use sheet::Unmade;
 
 /// The question about a sheet, for a plan, that was answered by no.
 #[derive(Clone, Copy, Debug, PartialEq, Eq)]
@@ -22,6 +25,7 @@ impl JudgeRefusal {
     pub fn number(self) -> u8
         ensures answer { result ≡ number_of self }
     {
+        // A refusal with a length in it is not cast, so the numbers stand here and not at the variants.
         match self {
             JudgeRefusal::Letters => 32,
             JudgeRefusal::Shortest => 33,
@@ -36,9 +40,9 @@ impl JudgeRefusal {
 #[derive(Clone, Copy, Debug, PartialEq, Eq)]
 pub enum DrawRefusal {
     /// Has the working memory 1,020 words?
-    Words,
+    Words = 20,
     /// Do 255 states suffice?
-    States,
+    States = 21,
 }
 
 impl DrawRefusal {
@@ -46,18 +50,17 @@ impl DrawRefusal {
     pub fn number(self) -> u8
         ensures answer { result ≡ draw_number_of self }
     {
-        match self {
-            DrawRefusal::Words => 20,
-            DrawRefusal::States => 21,
-        }
+        self as u8
     }
 }
 
 /// Why no sheet was drawn: it was refused, or memory for its states was wanting, which says nothing about the plan.
-#[derive(Clone, Copy, Debug, PartialEq, Eq)]
-pub enum DrawError {
-    /// It was refused.
-    Refused(DrawRefusal),
-    /// There was not memory enough for the states.
-    NoMemory,
+pub type DrawError = Unmade<DrawRefusal>;
+
+impl From<DrawRefusal> for DrawError {
+    ghost from_gives = { λ e r. r ≡ RefusedFor e };
+
+    fn from(refusal: DrawRefusal) -> DrawError {
+        DrawError::Refused(refusal)
+    }
 }

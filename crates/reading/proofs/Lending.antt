@@ -5,7 +5,7 @@ use Rattle.std.proofs.lemmas.List.{take_at}
 use Rattle.plan.specs.declared.Plan.{Plan}
 use Rattle.sheet.specs.declared.Sheet.{Sheet}
 use Rattle.judge.specs.Memory.{Wiped}
-use Rattle.judge.specs.declared.refusals.DrawError.{DrawError}
+use Rattle.judge.specs.Refusals.{DrawError}
 use Rattle.judge.specs.Drawings.{Draws}
 use Rattle.reading.specs.declared.refusals.AdmitRefusal.{AdmitRefusal}
 use Rattle.reading.specs.Admission.{Admitted}

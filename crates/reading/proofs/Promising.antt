@@ -9,8 +9,8 @@ use Rattle.plan.specs.declared.Plan.{Plan}
 use Rattle.plan.specs.Views.{letters_of}
 use Rattle.sheet.specs.declared.Sheet.{Sheet}
 use Rattle.judge.specs.declared.refusals.DrawRefusal.TheVariants.{Words, States}
-use Rattle.judge.specs.declared.refusals.DrawError.{DrawError}
-use Rattle.judge.specs.declared.refusals.DrawError.TheVariants.{Refused, NoMemory}
+use Rattle.judge.specs.Refusals.{DrawError}
+use Rattle.sheet.specs.declared.refusals.Unmade.TheVariants.{Refused, NoMemory}
 use Rattle.judge.specs.declared.refusals.JudgeRefusal.TheVariants.{Letters, Shortest, Room, Pairs, Word}
 use Rattle.judge.specs.Judged.{Ready, PairsHeld, Faultless}
 use Rattle.judge.specs.Drawings.{HasWords, StatesSuffice, DrawnFor, DrawAnswers, Draws}

@@ -4,7 +4,7 @@ use Rattle.pattern.specs.Rows.{Hit as Place}
 use Rattle.plan.specs.declared.Plan.{Plan}
 use Rattle.plan.specs.Views.{letters_of, patterns_of}
 use Rattle.sheet.specs.declared.Sheet.{Sheet}
-use Rattle.judge.specs.declared.refusals.DrawError.{DrawError}
+use Rattle.judge.specs.Refusals.{DrawError}
 use Rattle.judge.specs.Memory.{Wiped}
 use Rattle.judge.specs.Drawings.{Draws}
 use Rattle.reading.specs.declared.hits.Report.{Report as Account}

@@ -24,7 +24,7 @@ use Rattle.plan.specs.Views.{letters_of, patterns_of}
 use Rattle.sheet.specs.declared.Sheet.{Sheet}
 use Rattle.sheet.specs.Tables.{single}
 use Rattle.sheet.specs.Views.{automaton_in, table_of, automaton_of}
-use Rattle.judge.specs.declared.refusals.DrawError.{DrawError}
+use Rattle.judge.specs.Refusals.{DrawError}
 use Rattle.judge.specs.Memory.{Wiped, groups_in}
 use Rattle.judge.specs.Judged.{HasRoom}
 use Rattle.judge.specs.Drawings.{DrawnFor, Draws}

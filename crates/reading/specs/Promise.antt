@@ -10,8 +10,8 @@ use Rattle.plan.specs.declared.Plan.{Plan}
 use Rattle.plan.specs.Views.{letters_of}
 use Rattle.sheet.specs.declared.Sheet.{Sheet}
 use Rattle.sheet.specs.Views.{table_of}
-use Rattle.judge.specs.declared.refusals.DrawError.{DrawError}
-use Rattle.judge.specs.declared.refusals.DrawError.TheVariants.{NoMemory}
+use Rattle.judge.specs.Refusals.{DrawError}
+use Rattle.sheet.specs.declared.refusals.Unmade.TheVariants.{NoMemory}
 use Rattle.judge.specs.declared.refusals.JudgeRefusal.TheVariants.{Word}
 use Rattle.judge.specs.Memory.{groups_in}
 use Rattle.judge.specs.Judged.{Ready, HasRoom, PairsHeld, Faultless, ShowsWrong}

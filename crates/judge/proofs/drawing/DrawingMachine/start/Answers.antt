@@ -5,4 +5,4 @@ use Rattle.judge.proofs.drawing.DrawingMachine.start.Goals as goal
 
 pub returns : goal.returns
 unfolding drawing
-returns c = record { answer = refl }
+returns c = record { answer = refl; none = refl }

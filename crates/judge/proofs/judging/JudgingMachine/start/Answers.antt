@@ -5,4 +5,4 @@ use Rattle.judge.proofs.judging.JudgingMachine.start.Goals as goal
 
 pub returns : goal.returns
 unfolding judge
-returns c = record { answer = refl }
+returns c = record { answer = refl; none = refl }

@@ -1,7 +1,0 @@
--- The states of the entries so far.
-use Rattle.judge.specs.Plots.{Bare}
-use Rattle.sheet.specs.Views.{table_of}
-use Rattle.judge.proofs.drawing.states.Given as goal
-
-abbrev pub invariant-loop-k : goal.invariant-loop-k
-invariant-loop-k l = Bare l.plan l.cells l.k (table_of l.sheet)

@@ -1,5 +1,0 @@
--- Each entry was found from one before it.
-use Rattle.judge.proofs.spelling.+spell.Given as goal
-
-abbrev pub decreases-spell : goal.decreases-spell
-decreases-spell l = l.at
