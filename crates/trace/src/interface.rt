@@ -16,7 +16,8 @@ pub trait Trace {
     /// The letter count `K` of this kind of trace; a layer passes on that of the trace below it.
     const LETTER_COUNT: u8;
 
-    // The same number for clauses: in generic code a clause cannot name the constant.
+    // The same number for clauses. (A ghost member of the constant's name is not proved of an impl that has a lifetime, as those of `&T` and of
+    // the logs; so the two are tied by the contract of `letters`, whose body each impl has.)
     ghost alphabet: { ℕ };
 
     // The row: a letter or a damage for each cell.
