@@ -23,9 +23,6 @@ pub trait Trace {
     // The row: a letter or a damage for each cell.
     ghost row: { Self → List (Result ℕ Self.Damage) };
 
-    // From 1 to 32 letters, each letter of the row one of them, and no more cells than `MOST_CELLS`.
-    ghost lawful: { (x : Self) → Lawful alphabet (row x) };
-
     /// The letter count `K`.
     fn letters(&self) -> u8
         ensures { result ≡ alphabet };
@@ -44,4 +41,7 @@ pub trait Trace {
     {
         self.len() == 0
     }
+
+    // The law that each `impl` proves of its row: from 1 to 32 letters, each letter of the row one of them, and no more cells than `MOST_CELLS`.
+    ghost lawful: { (x : Self) → Lawful alphabet (row x) };
 }
