@@ -7,15 +7,15 @@ ghost use Rattle.logs.specs.declared.cause.Cause.TheVariants.{NotASign};
 #[derive(Clone, Copy, Drop, PartialEq, Eq, Debug)]
 pub enum Cause {
     /// The byte is no sign.
-    NotASign,
+    NotASign = 1,
     /// The block's check does not hold.
-    Check,
+    Check = 2,
     /// The block's number is not its place in the log.
-    Number,
+    Number = 3,
     /// The block's fourth byte is not zero, or its count is not one that it may have.
-    Header,
+    Header = 4,
     /// The record's minute or its code is out of range.
-    Record,
+    Record = 5,
 }
 
 impl Cause {
@@ -23,13 +23,7 @@ impl Cause {
     pub fn number(self) -> u8
         ensures { result ≡ cause_number self }
     {
-        match self {
-            Cause::NotASign => 1,
-            Cause::Check => 2,
-            Cause::Number => 3,
-            Cause::Header => 4,
-            Cause::Record => 5,
-        }
+        self as u8
     }
 }
 
