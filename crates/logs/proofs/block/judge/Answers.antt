@@ -3,9 +3,9 @@ use Rattle.std.proofs.lemmas.Bool.Decides.{nat_tests}
 use Rattle.logs.specs.Blocks.{verdict_of}
 use Rattle.logs.proofs.block.judge.Goals as goal
 
-pub returns-then-word-check_of : goal.returns-then-word-check_of
+pub returns-then-from_be_bytes-check_of : goal.returns-then-from_be_bytes-check_of
 unfolding verdict_of
-returns-then-word-check_of c = grind (arith, nat_tests)
+returns-then-from_be_bytes-check_of c = grind (arith, nat_tests)
 
 pub returns-then-from-number : goal.returns-then-from-number
 unfolding verdict_of
