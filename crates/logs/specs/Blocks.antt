@@ -3,12 +3,12 @@
 --   byte, word16, word32   the number at an offset of a block
 --   weighted b n           the first n words of the block, word w (from 0) times 2 w + 1, summed up
 --   check_of               what the check has to be: 1 and that sum of the 127 words before it, modulo 2 ^ 32
---   verdict_of             what is found of a block that ought to have a certain number: sound, with its count, or else the first cause
+--   Verdict                what is found of a block: its count, if it is sound, or else the first cause
+--   verdict_of             what is found of a block that ought to have a certain number
 -- Assumes nothing.
-use Rattle.std.specs.Prelude.{ℕ, zero, suc, ◌+◌, ◌*◌, ◌%◌, ◌^◌, Bool, cond, ◌&&◌, ◌||◌, List, ◌==◌, nat_le, slice_index}
+use Rattle.std.specs.Prelude.{ℕ, zero, suc, ◌+◌, ◌*◌, ◌%◌, ◌^◌, Bool, cond, ◌&&◌, ◌||◌, List, ◌==◌, nat_le, slice_index, Ok, Err, Result}
+use Rattle.logs.specs.declared.cause.Cause.{Cause}
 use Rattle.logs.specs.declared.cause.Cause.TheVariants.{Check, Number, Header}
-use Rattle.logs.specs.declared.block.Verdict.{Verdict}
-use Rattle.logs.specs.declared.block.Verdict.TheVariants.{Sound, Unsound}
 
 abbrev pub byte : List ℕ → ℕ → ℕ
 byte b i = slice_index b i
@@ -30,10 +30,13 @@ check_of b = (1 + weighted b 127) % 2 ^ 32
 abbrev pub well_headed : Bool → List ℕ → Bool
 well_headed last b = byte b 3 == 0 && (byte b 2 == 126 || (last && nat_le (byte b 2) 126))
 
+abbrev pub Verdict : Type 0
+Verdict = Result ℕ Cause
+
 unfoldable pub verdict_of : ℕ → Bool → List ℕ → Verdict
 verdict_of number last b =
     cond (word32 b 508 == check_of b)
     (cond (word16 b 0 == number)
-    (cond (well_headed last b) (Sound (byte b 2)) (Unsound Header))
-    (Unsound Number))
-    (Unsound Check)
+    (cond (well_headed last b) (Ok (byte b 2)) (Err Header))
+    (Err Number))
+    (Err Check)

@@ -1,9 +1,9 @@
 -- Laws of the row of a sign log, by which the code is proved: the ruleset `signs`, and that the row is lawful. Assumes nothing.
-use Rattle.std.specs.Prelude.{◌≡◌, ℕ, zero, suc, ◌+◌, ◌-◌, ◌<◌, ◌≤◌, min, ◌&&◌, List, [], ◌∷◌, length, take, Ok, Err, nat_le, slice_index, refl}
-use Rattle.std.proofs.Common.{sym, ap, ◌∙◌, add-zero, zero-add, suc-add, add-suc, not-suc-le-zero, le_of_suc-le-suc, arith, lit≤, length-take, get_or-take, take_all}
+use Rattle.std.specs.Prelude.{◌≡◌, ℕ, zero, suc, ◌+◌, ◌-◌, ◌<◌, ◌≤◌, ◌&&◌, List, [], ◌∷◌, length, Ok, Err, nat_le, slice_index, refl}
+use Rattle.std.proofs.Common.{sym, ap, ◌∙◌, add-zero, zero-add, suc-add, add-suc, not-suc-le-zero, le_of_suc-le-suc, arith, lit≤}
 use Rattle.std.proofs.lemmas.Bool.{cond_both, and_parts, leb-true}
 use Rattle.trace.specs.Cells.{shown, cell_at, Below, Lettered, Lawful}
-use Rattle.logs.specs.SignLogs.{no_sign, sign, sign_cells, sign_row, shown_signs}
+use Rattle.logs.specs.SignLogs.{no_sign, sign, sign_cells, sign_row}
 
 pub length_cells : (k : ℕ) (bs : List ℕ) → length (sign_cells k bs) ≡ length bs
 length_cells k [] = refl
@@ -25,29 +25,18 @@ lettered_cells : (k : ℕ) (bs : List ℕ) → Lettered 26 (sign_cells k bs)
 lettered_cells k [] = tt
 lettered_cells k (b ∷ bs) = (sign_below k b, lettered_cells (suc k) bs)
 
-pub length_signs : (bs : List ℕ) → length (shown_signs bs) ≡ min 65536 (length bs)
-unfolding shown_signs
-length_signs bs = length_cells 0 (take 65536 bs) ∙ length-take 65536 bs
+pub length_signs : (bs : List ℕ) → length (sign_row bs) ≡ length bs
+length_signs bs = length_cells 0 bs
 
-pub cell_signs : (bs : List ℕ) (i : ℕ) → i < length (shown_signs bs) → cell_at (shown_signs bs) i ≡ shown (sign i (slice_index bs i))
-unfolding shown_signs
-cell_signs bs i h =
-    let w : i < length (take 65536 bs) = simp (length_cells 0 (take 65536 bs)) at h in
-    let l : i < 65536 = omega (arith, length-take 65536 bs) in
-    cell_cells 0 (take 65536 bs) i w ∙ ap shown (ap (λ (k : ℕ). sign k (slice_index (take 65536 bs) i)) (zero-add i) ∙ ap (sign i) (get_or-take 65536 bs i 0 l))
+pub cell_signs : (bs : List ℕ) (i : ℕ) → i < length bs → cell_at (sign_row bs) i ≡ shown (sign i (slice_index bs i))
+cell_signs bs i h = cell_cells 0 bs i h ∙ ap (λ (k : ℕ). shown (sign k (slice_index bs i))) (zero-add i)
 
--- a log that is not too long shows all its bytes
-pub shown_whole : (bs : List ℕ) → length bs ≤ 65536 → shown_signs bs ≡ sign_row bs
-unfolding shown_signs
-shown_whole bs h = ap sign_row (take_all 65536 bs h)
-
-pub lawful_signs : (bs : List ℕ) → Lawful 26 (shown_signs bs)
-unfolding shown_signs
-lawful_signs bs = record {
+pub lawful_signs : (bs : List ℕ) → length bs ≤ 65536 → Lawful 26 (sign_row bs)
+lawful_signs bs h = record {
   some_letter = lit≤ tt;
   few_letters = lit≤ tt;
   short = omega (arith, length_signs bs);
-  lettered = lettered_cells 0 (take 65536 bs);
+  lettered = lettered_cells 0 bs;
 }
 
-pub ruleset signs = (cell_signs, length_signs, shown_whole)
+pub ruleset signs = (cell_signs, length_signs)

@@ -2,9 +2,8 @@
 --   sign k b       the cell of the byte b at the offset k: `A` to `Z` are the letters 0 to 25, any other byte is damage
 --   sign_cells k   the cells of bytes that begin at the offset k
 --   sign_row       the row of a log of these bytes
---   shown_signs    what a log shows, whatever bytes it holds: those that `open` lets through are never cut
 -- Assumes nothing.
-use Rattle.std.specs.Prelude.{ℕ, suc, ◌-◌, cond, ◌&&◌, List, [], ◌∷◌, take, Ok, Err, Result, nat_le}
+use Rattle.std.specs.Prelude.{ℕ, suc, ◌-◌, cond, ◌&&◌, List, [], ◌∷◌, Ok, Err, Result, nat_le}
 use Rattle.logs.specs.declared.cause.SignDamage.{SignDamage}
 
 abbrev pub no_sign : ℕ → SignDamage
@@ -19,6 +18,3 @@ sign_cells k (b ∷ bs) = sign k b ∷ sign_cells (suc k) bs
 
 abbrev pub sign_row : List ℕ → List (Result ℕ SignDamage)
 sign_row bytes = sign_cells 0 bytes
-
-unfoldable pub shown_signs : List ℕ → List (Result ℕ SignDamage)
-shown_signs bytes = sign_row (take 65536 bytes)

@@ -1,21 +1,23 @@
 //! The causes of damage, and what each kind of log tells of a damaged cell.
-ghost use Rattle.std.specs.Prelude.{◌≡◌};
-ghost use Rattle.logs.specs.Causes.{cause_number};
+ghost use Rattle.std.specs.Prelude.{◌≡◌, Some};
+ghost use Rattle.logs.specs.Causes.{cause_number, damage_text};
 ghost use Rattle.logs.specs.declared.cause.Cause.TheVariants.{NotASign};
+
+use std::fmt;
 
 /// Why a cell is damaged.
 #[derive(Clone, Copy, Drop, PartialEq, Eq, Debug)]
 pub enum Cause {
     /// The byte is no sign.
-    NotASign,
+    NotASign = 1,
     /// The block's check does not hold.
-    Check,
+    Check = 2,
     /// The block's number is not its place in the log.
-    Number,
+    Number = 3,
     /// The block's fourth byte is not zero, or its count is not one that it may have.
-    Header,
+    Header = 4,
     /// The record's minute or its code is out of range.
-    Record,
+    Record = 5,
 }
 
 impl Cause {
@@ -23,13 +25,7 @@ impl Cause {
     pub fn number(self) -> u8
         ensures { result ≡ cause_number self }
     {
-        match self {
-            Cause::NotASign => 1,
-            Cause::Check => 2,
-            Cause::Number => 3,
-            Cause::Header => 4,
-            Cause::Record => 5,
-        }
+        self as u8
     }
 }
 
@@ -53,4 +49,15 @@ impl SignDamage {
 pub struct EventDamage {
     pub cause: Cause,
     pub offset: usize,
+}
+
+/// The damage by the number of its cause, and its offset.
+impl fmt::Display for EventDamage {
+    ghost output = { λ damage. Some (damage_text damage) };
+
+    fn fmt<W: fmt::Write>(&self, f: &mut fmt::Formatter<W>) -> fmt::Result {
+        let cause = self.cause.number();
+        let offset = self.offset;
+        write!(f, "cause {cause} at byte {offset}")
+    }
 }

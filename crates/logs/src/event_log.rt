@@ -1,11 +1,11 @@
 //! Event logs: blocks of records, each block judged once, when the log is opened.
-ghost use Rattle.std.specs.Prelude.{◌≡◌, ℕ, ◌+◌, ◌*◌, ◌/◌, ◌%◌, ◌<◌, ◌≤◌, length, MatchResult};
+ghost use Rattle.std.specs.Prelude.{◌≡◌, ◌+◌, ◌*◌, ◌/◌, ◌<◌, ◌≤◌, length, slice_index_or, MatchResult};
 ghost use Rattle.trace.specs.Cells.{shown};
-ghost use Rattle.logs.specs.EventLogs.{event_row, record_at, cell_in, shown_events, cell_count, WellSized};
+ghost use Rattle.logs.specs.EventLogs.{event_row, cell_in, cell_count, Judged, WellSized};
 ghost use Rattle.logs.specs.EventLaws.{lawful_events};
 ghost use Rattle.logs.specs.declared.refusal.OpenRefusal.TheVariants.{EventLogLength};
 
-use crate::block::{BLOCK_BYTES, BLOCK_RECORDS, RECORDS_AT, Verdict, judge};
+use crate::block::{BLOCK_BYTES, BLOCK_RECORDS, RECORDS_AT, Verdict, cells_of, judge};
 use crate::cause::EventDamage;
 use crate::record::read_record;
 use crate::refusal::OpenRefusal;
@@ -20,49 +20,43 @@ pub const MOST_BLOCKS: usize = 128;
 
 /// A log of 32 letters, four for each code of an event. A block that is not sound shows 126 damaged cells; a sound one shows a cell for
 /// each of its records, damaged where minute or code is out of range.
-#[derive(Clone, Copy, Drop)]
+#[derive(Clone, Copy, Drop, Debug)]
 pub struct EventLog<'a> {
     bytes: &'a [u8],
-    // what was found of each block of the bytes; past the last block it says nothing
+    // What was found of each block of the bytes; past the last block it says nothing. An array, as opening cannot fail for want of memory.
     verdicts: [Verdict; MOST_BLOCKS],
     cells: usize,
+    // The bytes are whole blocks, and not too many; each block was judged; and the cells of all were counted.
+    ghost sized: { WellSized bytes.now },
+    ghost judged: { Judged bytes.now verdicts (length bytes.now / 512) },
+    ghost counted: { cells ≡ cell_count (length bytes.now / 512) verdicts },
 }
 
-// The block of a cell, and its record there.
-fn place_of(i: usize) -> (usize, usize)
-    ensures { result ≡ (i / 126, i % 126) }
+// The cells of all blocks, of which this was found: each block but the last gives 126.
+fn count_cells(verdicts: &[Verdict]) -> usize
+    requires { length verdicts.now ≤ 128 }
+    ensures { result ≡ cell_count (length verdicts.now) verdicts.now }
 {
-    (i / BLOCK_RECORDS, i % BLOCK_RECORDS)
-}
-
-// The cells of so many blocks: each but the last gives 126.
-fn count_cells(blocks: usize, verdicts: &[Verdict; MOST_BLOCKS]) -> usize
-    requires { blocks ≤ 128 }
-    ensures { result ≡ cell_count blocks verdicts.now }
-{
-    match blocks {
-        0 => 0,
-        _ => BLOCK_RECORDS * (blocks - 1) + verdicts[blocks - 1].cells(),
+    match verdicts.split_last() {
+        None => 0,
+        Some((last, before)) => BLOCK_RECORDS * before.len() + cells_of(*last),
     }
 }
 
 impl<'a> EventLog<'a> {
     /// The log of these bytes, if they can be one. Each block is judged here, once.
     pub fn open(bytes: &'a [u8]) -> Result<EventLog<'a>, OpenRefusal>
-        ensures { MatchResult result (λ log. WellSized bytes.now × (shown_events log.bytes.now log.verdicts log.cells ≡ event_row bytes.now)) (λ e. (WellSized bytes.now → ⊥) × (e ≡ EventLogLength)) }
+        ensures { MatchResult result (λ log. WellSized bytes.now × (event_row log.bytes.now ≡ event_row bytes.now)) (λ e. (WellSized bytes.now → ⊥) × (e ≡ EventLogLength)) }
     {
-        let len = bytes.len();
-        if len % BLOCK_BYTES != 0 || len > MOST_BYTES {
+        let (blocks, rest) = bytes.as_chunks::<BLOCK_BYTES>();
+        if !rest.is_empty() || bytes.len() > MOST_BYTES {
             return Err(OpenRefusal::EventLogLength);
         }
-        let blocks = len / BLOCK_BYTES;
-        let mut verdicts = [Verdict::Sound(0); MOST_BLOCKS];
-        for place in 0..blocks {
-            let from = BLOCK_BYTES * place;
-            let block = &bytes[from..from + BLOCK_BYTES];
-            verdicts[place] = judge(place, place + 1 == blocks, block);
+        let mut verdicts = [Ok(0); MOST_BLOCKS];
+        for (place, block) in blocks.iter().enumerate() {
+            verdicts[place] = judge(place, place + 1 == blocks.len(), block);
         }
-        let cells = count_cells(blocks, &verdicts);
+        let cells = count_cells(&verdicts[..blocks.len()]);
         Ok(EventLog {
             bytes,
             verdicts,
@@ -72,33 +66,18 @@ impl<'a> EventLog<'a> {
 }
 
 impl EventLog<'_> {
-    // The cell of the record that stands at an offset.
-    fn record_at(&self, offset: usize) -> Result<u8, Fault<EventDamage>>
-        requires { offset + 4 ≤ length self.now.bytes.now }
-        ensures { result ≡ shown (record_at self.now.bytes.now offset) }
-    {
-        let bytes = self.bytes;
-        read_record(
-            [
-                bytes[offset],
-                bytes[offset + 1],
-                bytes[offset + 2],
-                bytes[offset + 3],
-            ],
-            offset,
-        )
-    }
-
-    // Cell `n` of a block, of which this was found.
-    fn cell_in(&self, block: usize, n: usize, verdict: Verdict) -> Result<u8, Fault<EventDamage>>
-        requires { (512 * block + 512 ≤ length self.now.bytes.now) × (n < 126) }
-        ensures { result ≡ shown (cell_in block n verdict self.now.bytes.now) }
+    // Cell `n` of a block.
+    #[tactic(auto, using(crate::proofs::EventLogs::record_of_chunk), unfolding(crate::specs::EventLogs::cell_in))]
+    fn cell_in(&self, block: usize, n: usize) -> Result<u8, Fault<EventDamage>>
+        requires block { block < length self.now.bytes.now / 512 }
+        requires cell { n < 126 }
+        ensures { result ≡ shown (cell_in block n (slice_index_or self.now.verdicts block (Ok 0)) self.now.bytes.now) }
     {
         let offset = BLOCK_BYTES * block;
-        match verdict {
-            Verdict::Sound(_) => self.record_at(offset + RECORDS_AT + 4 * n),
-            Verdict::Unsound(cause) => Err(Fault::Damaged(EventDamage { cause, offset })),
-        }
+        let _ = self.verdicts[block].map_err(|cause| Fault::Damaged(EventDamage { cause, offset }))?;
+        let at = offset + RECORDS_AT + 4 * n;
+        let (words, _) = self.bytes.as_chunks::<4>();
+        read_record(words[at / 4], at)
     }
 }
 
@@ -109,25 +88,24 @@ impl<'a> Trace for EventLog<'a> {
 
     ghost alphabet = { 32 };
 
-    ghost row = { λ s. shown_events s.bytes.now s.verdicts s.cells };
+    ghost row = { λ s. event_row s.bytes.now };
 
-    ghost lawful = { λ s. lawful_events s.bytes.now s.verdicts s.cells };
+    ghost lawful = { λ s. lawful_events s.bytes.now s.verdicts s.cells s.sized s.judged s.counted };
 
     fn letters(&self) -> u8 {
         Self::LETTER_COUNT
     }
 
-    // The bounds never cut a log that was opened: they are what lets a cell be read without a further test.
+    #[tactic(auto, using(crate::specs::EventLaws::length_events))]
     fn len(&self) -> usize {
-        let blocks = (self.bytes.len() / BLOCK_BYTES).min(MOST_BLOCKS);
-        self.cells.min(BLOCK_RECORDS * blocks)
+        self.cells
     }
 
+    #[tactic(auto, using(crate::specs::EventLaws::length_events, crate::specs::EventLaws::cells_within, trace::specs::Rows::cell_past))]
     fn cell(&self, i: usize) -> Result<u8, Fault<EventDamage>> {
-        if i >= self.len() {
+        if i >= self.cells {
             return Err(Fault::NoSuchCell);
         }
-        let (block, n) = place_of(i);
-        self.cell_in(block, n, self.verdicts[block])
+        self.cell_in(i / BLOCK_RECORDS, i % BLOCK_RECORDS)
     }
 }

@@ -6,9 +6,9 @@ ghost use Rattle.logs.specs.Refusals.{refusal_number};
 #[derive(Clone, Copy, Drop, PartialEq, Eq, Debug)]
 pub enum OpenRefusal {
     /// A sign log has at most 65,536 bytes.
-    SignLogTooLong,
+    SignLogTooLong = 41,
     /// The length of an event log is a multiple of 512, at most 65,536.
-    EventLogLength,
+    EventLogLength = 42,
 }
 
 impl OpenRefusal {
@@ -16,9 +16,6 @@ impl OpenRefusal {
     pub fn number(self) -> u8
         ensures { result ≡ refusal_number self }
     {
-        match self {
-            OpenRefusal::SignLogTooLong => 41,
-            OpenRefusal::EventLogLength => 42,
-        }
+        self as u8
     }
 }

@@ -1,7 +1,7 @@
 //! Sign logs: a byte a cell.
 ghost use Rattle.std.specs.Prelude.{◌≡◌, ◌<◌, ◌≤◌, length, MatchResult};
 ghost use Rattle.trace.specs.Cells.{shown};
-ghost use Rattle.logs.specs.SignLogs.{sign, sign_row, shown_signs};
+ghost use Rattle.logs.specs.SignLogs.{sign, sign_row};
 ghost use Rattle.logs.specs.SignLaws.{lawful_signs};
 ghost use Rattle.logs.specs.declared.refusal.OpenRefusal.TheVariants.{SignLogTooLong};
 
@@ -17,12 +17,14 @@ pub const MOST_BYTES: usize = 65536;
 #[derive(Clone, Copy, Drop, Debug)]
 pub struct SignLog<'a> {
     bytes: &'a [u8],
+    // The bytes are not too many.
+    ghost short: { length bytes.now ≤ 65536 },
 }
 
 impl<'a> SignLog<'a> {
     /// The log of these bytes, if they are not too many.
     pub fn open(bytes: &'a [u8]) -> Result<SignLog<'a>, OpenRefusal>
-        ensures { MatchResult result (λ log. (length bytes.now ≤ 65536) × (shown_signs log.bytes.now ≡ sign_row bytes.now)) (λ e. (65536 < length bytes.now) × (e ≡ SignLogTooLong)) }
+        ensures { MatchResult result (λ log. (length bytes.now ≤ 65536) × (sign_row log.bytes.now ≡ sign_row bytes.now)) (λ e. (65536 < length bytes.now) × (e ≡ SignLogTooLong)) }
     {
         if bytes.len() > MOST_BYTES {
             return Err(OpenRefusal::SignLogTooLong);
@@ -48,22 +50,22 @@ impl<'a> Trace for SignLog<'a> {
 
     ghost alphabet = { 26 };
 
-    ghost row = { λ s. shown_signs s.bytes.now };
+    ghost row = { λ s. sign_row s.bytes.now };
 
-    ghost lawful = { λ s. lawful_signs s.bytes.now };
+    ghost lawful = { λ s. lawful_signs s.bytes.now s.short };
 
     fn letters(&self) -> u8 {
         Self::LETTER_COUNT
     }
 
+    #[tactic(auto, using(crate::specs::SignLaws::length_signs))]
     fn len(&self) -> usize {
-        self.bytes.len().min(MOST_BYTES)
+        self.bytes.len()
     }
 
+    #[tactic(auto, using(crate::specs::SignLaws::signs, trace::specs::Rows::rows))]
     fn cell(&self, i: usize) -> Result<u8, Fault<SignDamage>> {
-        if i >= self.len() {
-            return Err(Fault::NoSuchCell);
-        }
-        read_sign(self.bytes[i], i)
+        let byte = self.bytes.get(i).ok_or(Fault::NoSuchCell)?;
+        read_sign(*byte, i)
     }
 }

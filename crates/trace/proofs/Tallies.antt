@@ -1,28 +1,24 @@
--- The tally of a row, one cell further, and as a whole. Assumes nothing.
-use Rattle.std.proofs.Common.{◌≡◌, ℕ, ◌+◌, ◌-◌, ◌<◌, ◌≤◌, true, false, cond, List, [], ◌∷◌, length, get_or, take, is_ok, is_err, Ok, Err, count_by, Result, sym, refl, ap, ◌∙◌, not-suc-le-zero, arith, take_all}
-use Rattle.std.proofs.lemmas.List.Sums.{sum_by-cons, count_by_more_yes, count_by_more_no}
+-- The cells that answer a letter, counted by their numbers, are the letters of the row. Assumes nothing.
+use Rattle.std.proofs.Common.{◌≡◌, ℕ, suc, ◌+◌, ◌-◌, cond, Bool, List, [], ◌∷◌, length, is_ok, is_err, Ok, Err, count_by, Result, sym, refl, ap, ◌∙◌, add-zero, zero-add, arith}
+use Rattle.std.specs.List.{range_with_len, filter}
+use Rattle.std.proofs.lemmas.List.Sums.{sum_by-cons, length-filter}
 use Rattle.trace.specs.Cells.{shown, cell_at}
 use Rattle.trace.specs.Tallies.{tally_of}
-use Rattle.trace.specs.Rows.{cell_within}
 
 module _ {D : Type 0} where
-  ok_shown : (x : Result ℕ D) → is_ok x ≡ is_ok (shown x)
+  ok_shown : (x : Result ℕ D) → is_ok (shown x) ≡ is_ok x
   ok_shown (Ok n) = refl
   ok_shown (Err d) = refl
 
-  ok_cell : (xs : List (Result ℕ D)) (i : ℕ) (d : Result ℕ D) → i < length xs → is_ok (get_or xs i d) ≡ is_ok (cell_at xs i)
-  ok_cell xs i d h = ok_shown (get_or xs i d) ∙ ap is_ok (sym (cell_within xs i d h))
-
-  pub count_yes : (xs : List (Result ℕ D)) (i : ℕ) → i < length xs → is_ok (cell_at xs i) ≡ true → count_by is_ok (take (i + 1) xs) ≡ count_by is_ok (take i xs) + 1
-  count_yes [] i h e = absurd (not-suc-le-zero h)
-  count_yes (x ∷ xs) i h e = count_by_more_yes is_ok (x ∷ xs) i x h (ok_cell (x ∷ xs) i x h ∙ e)
-
-  pub count_no : (xs : List (Result ℕ D)) (i : ℕ) → i < length xs → is_ok (cell_at xs i) ≡ false → count_by is_ok (take (i + 1) xs) ≡ count_by is_ok (take i xs)
-  count_no [] i h e = absurd (not-suc-le-zero h)
-  count_no (x ∷ xs) i h e = count_by_more_no is_ok (x ∷ xs) i x h (ok_cell (x ∷ xs) i x h ∙ e)
+  count_from : (xs : List (Result ℕ D)) (a : ℕ) (f : ℕ → Bool) → ((i : ℕ) → f (a + i) ≡ is_ok (cell_at xs i)) → count_by f (range_with_len a (length xs)) ≡ count_by is_ok xs
+  count_from [] a f h = refl
+  count_from (x ∷ xs) a f h =
+      let here : f a ≡ is_ok x = ap f (sym (add-zero a)) ∙ h 0 ∙ ok_shown x in
+      let next = count_from xs (a + 1) f (λ i. let e : a + 1 + i ≡ a + suc i = omega arith in ap f e ∙ h (suc i)) in
+      omega (arith, sum_by-cons (λ i. cond (f i) 1 0) a (range_with_len (a + 1) (length xs)), sum_by-cons (λ y. cond (is_ok y) 1 0) x xs, ap {B = ℕ} (λ (b : Bool). cond b 1 0) here, next)
 
   -- a cell is a letter or it is not
-  pub tally_split : (xs : List (Result ℕ D)) → count_by is_ok xs + count_by is_err xs ≡ length xs
+  tally_split : (xs : List (Result ℕ D)) → count_by is_ok xs + count_by is_err xs ≡ length xs
   tally_split [] = refl
   tally_split (x ∷ xs) = omega (arith, sum_by-cons (λ y. cond (is_ok y) 1 0) x xs, sum_by-cons (λ y. cond (is_err y) 1 0) x xs, tally_split xs, either x)
     where
@@ -30,10 +26,9 @@ module _ {D : Type 0} where
       either (Ok n) = refl
       either (Err d) = refl
 
-  -- the count at the end of the row is the tally
-  pub tally_whole : (xs : List (Result ℕ D)) (n i len : ℕ) → len ≤ i → i ≤ len → len ≡ length xs → n ≡ count_by is_ok (take i xs) → record { letters = n; damaged = len - n } ≡ tally_of xs
-  tally_whole xs n i len low high e h =
-      let whole : take i xs ≡ xs = take_all i xs (omega arith) in
-      let oks : n ≡ count_by is_ok xs = h ∙ ap (count_by is_ok) whole in
+  -- the numbers of the cells that answer a letter, as many as they are, give the tally
+  pub tally_whole : (xs : List (Result ℕ D)) (n len : ℕ) → len ≡ length xs → n ≡ length (filter (λ i. is_ok (cell_at xs i)) (range_with_len 0 len)) → record { letters = n; damaged = len - n } ≡ tally_of xs
+  tally_whole xs n len e h =
+      let oks : n ≡ count_by is_ok xs = h ∙ length-filter (λ i. is_ok (cell_at xs i)) (range_with_len 0 len) ∙ ap (λ (k : ℕ). count_by (λ i. is_ok (cell_at xs i)) (range_with_len 0 k)) e ∙ count_from xs 0 (λ i. is_ok (cell_at xs i)) (λ i. ap (λ (k : ℕ). is_ok (cell_at xs k)) (zero-add i)) in
       let errs : len - n ≡ count_by is_err xs = omega (arith, tally_split xs) in
       λ j. record { letters = oks j; damaged = errs j }

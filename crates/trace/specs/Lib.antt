@@ -1,4 +1,5 @@
 pub mod Cells
+pub mod Faults
 pub mod Layers
 pub mod Rows
 pub mod Signs

@@ -16,14 +16,12 @@ pub trait Trace {
     /// The letter count `K` of this kind of trace; a layer passes on that of the trace below it.
     const LETTER_COUNT: u8;
 
-    // The same number for clauses: in generic code a clause cannot name the constant.
+    // The same number for clauses; `letters` ties the two, by a body in each `impl`. (A ghost member of the constant's own name would be
+    // tied to it by the check, but not in an `impl` with a lifetime, as those of `&T` and of the logs are.)
     ghost alphabet: { ℕ };
 
     // The row: a letter or a damage for each cell.
     ghost row: { Self → List (Result ℕ Self.Damage) };
-
-    // From 1 to 32 letters, each letter of the row one of them, and no more cells than `MOST_CELLS`.
-    ghost lawful: { (x : Self) → Lawful alphabet (row x) };
 
     /// The letter count `K`.
     fn letters(&self) -> u8
@@ -43,4 +41,7 @@ pub trait Trace {
     {
         self.len() == 0
     }
+
+    // The law that each `impl` proves of its row: from 1 to 32 letters, each letter of the row one of them, and no more cells than `MOST_CELLS`.
+    ghost lawful: { (x : Self) → Lawful alphabet (row x) };
 }

@@ -1,9 +1,6 @@
 //! A layer that shows two logs of one kind, one after the other.
-ghost use Rattle.std.specs.Prelude.{◌≡◌};
-ghost use Rattle.trace.specs.Cells.{cell_at};
-ghost use Rattle.trace.specs.Layers.{join, reanswer, refault};
+ghost use Rattle.trace.specs.Layers.{join};
 ghost use Rattle.trace.specs.Rows.{lawful_join};
-ghost use Rattle.trace.specs.declared.fault.Origin.TheVariants.{First, Second};
 
 use crate::fault::{Fault, Origin};
 use crate::interface::{MOST_CELLS, Trace};
@@ -30,54 +27,23 @@ impl<T: Trace> Trace for Join<T> {
         self.first.letters()
     }
 
+    #[tactic(auto, using(crate::specs::Rows::rows))]
     fn len(&self) -> usize {
         let first = self.first.len();
         let second = self.second.len();
         (first + second).min(MOST_CELLS)
     }
 
+    #[tactic(auto, using(crate::specs::Rows::rows))]
     fn cell(&self, i: usize) -> Result<u8, Fault<Origin<T::Damage>>> {
         if i >= self.len() {
             return Err(Fault::NoSuchCell);
         }
         let n = self.first.len();
         if i < n {
-            self.first_cell(i)
+            self.first.cell(i).map_err(|fault| fault.map(Origin::First))
         } else {
-            self.second_cell(i - n)
-        }
-    }
-}
-
-// A fault of the first log, as the join tells it: this is the `From` of the `?` below.
-impl<D> From<Fault<D>> for Fault<Origin<D>> {
-    ghost from_gives = { λ x y. y ≡ refault First x };
-
-    fn from(value: Fault<D>) -> Fault<Origin<D>> {
-        match value {
-            Fault::NoSuchCell => Fault::NoSuchCell,
-            Fault::Damaged(damage) => Fault::Damaged(Origin::First(damage)),
-        }
-    }
-}
-
-impl<T: Trace> Join<T> {
-    // A cell of the first log.
-    fn first_cell(&self, i: usize) -> Result<u8, Fault<Origin<T::Damage>>>
-        ensures { result ≡ reanswer First (cell_at (T.Trace.row self.now.first) i) }
-    {
-        let letter = self.first.cell(i)?;
-        Ok(letter)
-    }
-
-    // A cell of the second log. One pair of types has one `From`, which is the first log's, so the fault is rebuilt by hand.
-    fn second_cell(&self, i: usize) -> Result<u8, Fault<Origin<T::Damage>>>
-        ensures { result ≡ reanswer Second (cell_at (T.Trace.row self.now.second) i) }
-    {
-        match self.second.cell(i) {
-            Ok(letter) => Ok(letter),
-            Err(Fault::NoSuchCell) => Err(Fault::NoSuchCell),
-            Err(Fault::Damaged(damage)) => Err(Fault::Damaged(Origin::Second(damage))),
+            self.second.cell(i - n).map_err(|fault| fault.map(Origin::Second))
         }
     }
 }

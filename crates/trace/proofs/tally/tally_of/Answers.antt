@@ -1,17 +1,12 @@
-use Rattle.std.proofs.Common.{is_ok, sym, ap, ◌∙◌, arith}
-use Rattle.trace.proofs.Tallies.{count_yes, count_no, tally_whole}
+use Rattle.std.proofs.Common.{arith, rules, tests, is_ok}
+use Rattle.std.proofs.lemmas.Iterator.{YieldsList-from_range}
+use Rattle.std.proofs.lemmas.Iterator.Consumers.{YieldsList-from_filter, count_from_yields_List}
+use Rattle.trace.specs.Cells.{cell_at}
+use Rattle.trace.proofs.Tallies.{tally_whole}
 use Rattle.trace.proofs.tally.tally_of.Goals as goal
-use Rattle.trace.proofs.tally.tally_of.Goals.{then-is_ok, else-is_ok}
-
-pub loop-i-preserved : goal.loop-i-preserved
-loop-i-preserved g c =
-    let row = g.T.Trace.row c.args.trace.now in
-    let read = ap is_ok (sym c.cell.ensures) ∙ sym c.is_ok.ensures.value in
-    elim c.if-is_ok.branch [
-      | then-is_ok w ↦ let k = count_yes row c.loop-i.i (omega arith) (read ∙ w.if-is_ok.true) in (omega arith, omega arith)
-      | else-is_ok w ↦ let k = count_no row c.loop-i.i (omega arith) (read ∙ w.if-is_ok.false) in (omega arith, omega arith)
-    ]
 
 pub returns : goal.returns
 returns g c =
-    tally_whole (g.T.Trace.row c.args.trace.now) c.loop-i.letters c.loop-i.i c.len-len.result c.loop-i-test.false c.loop-i.auto.i-end c.len-len.ensures c.loop-i.invariant.1
+    let len = c.len-len.result in
+    let row = g.T.Trace.row c.args.trace.now in
+    tally_whole row _ len c.len-len.ensures (count_from_yields_List c.filter.result _ c.count-letters.ensures.ran (YieldsList-from_filter _ (λ i. is_ok (cell_at row i)) (YieldsList-from_range 0 len len c.filter.ensures.source (omega arith)) c.filter.ensures.closure (λ x b q k. search (rules, tests))))

@@ -8,7 +8,7 @@ use Rattle.reading.proofs.states.Reading.new.Goals as goal
 
 pub unwrap-plan-requires : goal.unwrap-plan-requires
 unwrap-plan-requires g c =
-    let l = g.T.Trace.lawful c.args.trace in
+    let l = g.met.T.Trace.lawful c.args.trace in
     always_planned planned (λ x. refl) c.letters-letters.result _ _ c.empty.ensures.answer (omega (arith, l.some_letter)) (omega (arith, l.few_letters))
 
 pub invariant_of-result : goal.invariant_of-result

@@ -21,7 +21,7 @@ returns-then-least-eq0 g c =
       answer = n;
       counted = omega arith;
       kept = refl;
-      hit = λ answers s. hit_is me (g.T.Trace.lawful me.reading.trace) s None _ n;
+      hit = λ answers s. hit_is me (g.met.T.Trace.lawful me.reading.trace) s None _ n;
       standing = λ answers s. record { lettered = s.lettered; reached = asked s.reached n; counted = s.counted };
     }
 
@@ -34,7 +34,7 @@ loop-at-init g c = (omega arith, c.places.invariant.0, onward_here _ _ _ c.place
 -- a turn of the inner loop
 turned : (g : given.Over) (c : After-follow-to g) → Turn c.shortest-least.result (letters_in (g.T.Trace.row c.args.self.now.reading.trace)) c.loop-at.at c.follow-to.result.0
 turned g c =
-    turn (g.T.Trace.lawful c.args.self.now.reading.trace) _ _ c.loop-at.at c.follow-to.result.0 c.len-len.ensures c.loop-at.invariant.0 c.if-least-eq0.false c.shortest-least.type_inv c.loop-at.invariant.2.roomy c.follow-to.ensures.looked
+    turn (g.met.T.Trace.lawful c.args.self.now.reading.trace) _ _ c.loop-at.at c.follow-to.result.0 c.len-len.ensures c.loop-at.invariant.0 c.if-least-eq0.false c.shortest-least.type_inv c.loop-at.invariant.2.roomy c.follow-to.ensures.looked
 
 jumps : (g : given.Over) (c : goal.After-jump-at g) → Went (automaton_of c.args.self.now.reading.sheet) c.shortest-least.result (letters_in (g.T.Trace.row c.args.self.now.reading.trace)) c.loop-at.at c.jump-at.result
 jumps g c =
@@ -69,7 +69,7 @@ leaves g c =
       | else-places-test w ↦
           leaves_end _ _ _ _ c.places.at _ _ w.at-is (w.found-is ∙ c.places.invariant.0) c.places.invariant.1 (omega (arith, c.len-len.ensures, w.places-test.false, length_letters cells))
       | then-places-test+in-Some+then-marks-ne0 w ↦
-          let t = turn (g.T.Trace.lawful c.args.self.now.reading.trace) _ _ w.loop-at.at w.follow-to.result.0 c.len-len.ensures w.loop-at.invariant.0 c.if-least-eq0.false c.shortest-least.type_inv w.loop-at.invariant.2.roomy w.follow-to.ensures.looked in
+          let t = turn (g.met.T.Trace.lawful c.args.self.now.reading.trace) _ _ w.loop-at.at w.follow-to.result.0 c.len-len.ensures w.loop-at.invariant.0 c.if-least-eq0.false c.shortest-least.type_inv w.loop-at.invariant.2.roomy w.follow-to.ensures.looked in
           let e = sym w.in-Some.is ∙ w.follow-to.ensures.answer in
           leaves_found _ _ _ _ w.loop-at.at w.step-at.result _ _ _ w.at-is w.found-is
           (onward_trans c.places.invariant.1 w.loop-at.invariant.2)
@@ -93,6 +93,6 @@ returns g c =
       answer = n;
       counted = omega (arith, one);
       kept = refl;
-      hit = λ answers s. hit_is me (g.T.Trace.lawful me.reading.trace) s _ _ n;
+      hit = λ answers s. hit_is me (g.met.T.Trace.lawful me.reading.trace) s _ _ n;
       standing = λ answers s. record { lettered = s.lettered; reached = asked s.reached n; counted = omega (arith, s.counted, one, count_more answers c.places-test.found) };
     }
