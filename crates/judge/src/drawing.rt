@@ -85,6 +85,7 @@ impl<'a, 'p> Plot<'a, 'p> {
     }
 
     /// Sets the arrow of an entry by a letter, if there is one.
+    // A row and a letter are the counters of the two loops, whose ranges give their bounds: a type of the two would say no more.
     fn point(&self, sheet: &mut Sheet, row: usize, letter: u8)
         requires complete { Complete self.now }
         requires entry { row < self.now.table.now.size }
