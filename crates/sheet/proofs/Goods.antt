@@ -1,18 +1,15 @@
 -- States that a sheet may hold: the four facts about each as one, and how they last as states are added and changed.
-use Rattle.std.proofs.Common.{◌≡◌, ℕ, zero, suc, ◌+◌, ◌^◌, ◌<◌, ◌≤◌, Bool, true, false, cond, List, [], ◌∷◌, ◌++◌, map, length, get_or, take, set, replicate, Some, None, Option, Ok, Err, Result, vec_items, vec_len, sym, refl, ap, ◌∙◌, subst, ⊎_elim, arith}
+use Rattle.std.proofs.Common.{◌≡◌, ℕ, zero, suc, ◌+◌, ◌^◌, ◌<◌, ◌≤◌, Bool, true, false, cond, List, [], ◌∷◌, ◌++◌, map, length, get_or, take, set, replicate, Some, None, Option, Ok, vec_items, vec_len, sym, refl, ap, ◌∙◌, subst, ⊎_elim, arith}
 use Rattle.std.proofs.lemmas.List.{length-take-le, get_or-replicate, get_or_default, get_or-map, get_or-set_same, get_or-set_other, length-set, length-map, map-set, get_or_past, take-replicate, map_push}
 use Rattle.std.proofs.Math.ListN.{get_or-map as get_or-map_with_default}
 use Rattle.std.proofs.lemmas.Bool.{cases_lt, cases_eq, le-leb}
 use Rattle.sheet.specs.declared.refusals.SheetRefusal.TheVariants.{Counts}
-use Rattle.std.specs.Result.{IsErrAnd}
-use Rattle.sheet.specs.declared.refusals.GrowthError.{GrowthError}
-use Rattle.sheet.specs.declared.refusals.GrowthError.TheVariants.{Full, NoMemory}
 use Rattle.sheet.specs.Files.{ask, is_counted}
 use Rattle.sheet.specs.declared.Sheet.{Sheet}
 use Rattle.sheet.specs.declared.states.State.{State}
 use Rattle.sheet.specs.States.{arrow_number, absent, Each, IsInside, Good}
-use Rattle.sheet.specs.Tables.{Entry, Table, blank, plain, single, grown, pointed, redirected, LawfulEntry, Lawful, most_states}
-use Rattle.sheet.specs.Views.{entry_in, table_of, Grows}
+use Rattle.sheet.specs.Tables.{Entry, Table, blank, plain, single, grown, pointed, redirected, LawfulEntry, Lawful}
+use Rattle.sheet.specs.Views.{entry_in, table_of}
 use Rattle.sheet.proofs.Places.{count_is}
 use Rattle.std.specs.List.{AllByRecursion}
 use Rattle.std.proofs.ByRecursion.{All-take, All-map, All-from_get_or}
@@ -110,14 +107,6 @@ pushed_is letters shortest marks prefix xs ys h e =
     ap
     (λ (es : List Entry). record { letters = letters; shortest = shortest; states = es })
     (ap (map (entry_in letters)) e ∙ map_push (entry_in letters) xs _ ∙ ap (λ (x : Entry). map (entry_in letters) xs ++ x ∷ []) (plain_entry letters marks prefix h))
-
--- where memory is wanting, nothing has changed
-pub no_room :
-    (t after : Table) (marks : ℕ) (prefix : Bool) (r : Result ℕ GrowthError)
-    → length t.states < most_states → after ≡ t → IsErrAnd r (λ e. e ≡ NoMemory) → Grows t marks prefix after r
-no_room t after marks prefix (Ok q) l e w = absurd w
-no_room t after marks prefix (Err Full) l e w = absurd (cc)
-no_room t after marks prefix (Err NoMemory) l e w = (l, e)
 
 -- ---- an arrow is set
 

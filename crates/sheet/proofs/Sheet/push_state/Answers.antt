@@ -1,14 +1,7 @@
-use Rattle.std.proofs.Common.{List, map, is_ok, vec_items, vec_len, refl, ap, arith, rules}
+use Rattle.std.proofs.Common.{is_ok, vec_items, vec_len, arith, rules}
 use Rattle.std.proofs.lemmas.List.{length-map}
-use Rattle.sheet.specs.Views.{entry_in}
-use Rattle.sheet.specs.declared.states.State.{State}
-use Rattle.sheet.proofs.Goods.{sheet_good, good_pushed, pushed_is, no_room}
-use Rattle.sheet.specs.Tables.{Table}
+use Rattle.sheet.proofs.Goods.{sheet_good, good_pushed, pushed_is}
 use Rattle.sheet.proofs.Sheet.push_state.Goals as goal
-
-pub returns-then-len-eq-MOST_STATES : goal.returns-then-len-eq-MOST_STATES
-returns-then-len-eq-MOST_STATES c =
-    record { answer = (simp length-map (omega (arith, c.args.self.now.states.ok.0)), refl) }
 
 pub invariant_of-self : goal.invariant_of-self
 invariant_of-self c =
@@ -40,18 +33,4 @@ returns c =
         simp length-map (search rules),
         pushed_is sheet.letters sheet.shortest c.args.marks c.args.prefix (vec_items sheet.states) (vec_items c.push.new.self) sheet.few (search rules),
       );
-    }
-
-pub returns-in_err-push : goal.returns-in_err-push
-returns-in_err-push c =
-    let sheet = c.args.self.now in
-    let table : List State → Table =
-    λ xs. record { letters = sheet.letters; shortest = sheet.shortest; states = map (entry_in sheet.letters) xs }
-    in
-    record {
-      answer =
-          no_room _ _ c.args.marks c.args.prefix c.from_residual.result
-          (simp length-map (omega (arith, sheet.states.ok.0)))
-          (ap table c.in_err-push.ensures.items)
-          c.from_residual.ensures.1;
     }

@@ -3,11 +3,6 @@ use Rattle.sheet.proofs.Goods.{sheet_good, good_set, turned_is}
 use Rattle.sheet.proofs.Places.{exist}
 use Rattle.sheet.proofs.Sheet.set_arrow.Goals as goal
 
-pub index_mut-requires : goal.index_mut-requires
-index_mut-requires c =
-    let e = exist c.args.self.now c.args.from c.args.letter c.args.to c.if-not-has_places.ensures.answer in
-    omega arith
-
 pub invariant_of-self : goal.invariant_of-self
 invariant_of-self c =
     let sheet = c.args.self.now in

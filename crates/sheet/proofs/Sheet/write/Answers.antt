@@ -1,5 +1,4 @@
 use Rattle.std.proofs.Common.{◌≡◌, ℕ, ◌+◌, ◌*◌, length, Ok, vec_len, ap, ◌∙◌, sym, arith}
-use Rattle.std.proofs.lemmas.List.{length-append, length-take, length-drop}
 use Rattle.sheet.specs.Files.{file_of}
 use Rattle.sheet.specs.Views.{table_of}
 use Rattle.sheet.proofs.Goods.{sheet_lawful}
@@ -19,13 +18,6 @@ returns-then-buffer-long c =
     let l = long (goal.at.returns-then-buffer-long c).After-entry_size in
     let no = no_room (table_of c.args.self.now) c.args.buffer.now (omega (arith, l)) in
     record { answer = no.0; held = no.1; again = tt }
-
-pub put_states-requires : goal.put_states-requires
-put_states-requires c =
-    let l = long (goal.at.put_states-requires c).After-entry_size in
-    let f = file_long c.args.self.now in
-    let four : length c.copy_from_slice.new.self ≡ 4 = ap length c.copy_from_slice.ensures.after in
-    record { long = simp (length-take, length-drop, length-append) (omega arith) }
 
 pub returns : goal.returns
 returns c =
