@@ -5,11 +5,7 @@ use std::{fs, io};
 /// The bytes of a file. A file that is missing counts as empty; any other failure is the caller's to report.
 pub fn read_or_empty(rt: &HostRuntime, path: &str) -> io::Result<Vec<u8>> {
     match fs::read(rt, path) {
-        Ok(bytes) => Ok(bytes),
-        Err(e) => if e.kind() == ErrorKind::NotFound {
-            Ok(Vec::new(rt.alloc()))
-        } else {
-            Err(e)
-        },
+        Err(e) if e.kind() == ErrorKind::NotFound => Ok(Vec::new(rt.alloc())),
+        answer => answer,
     }
 }

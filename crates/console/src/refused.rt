@@ -4,7 +4,7 @@ ghost use Rattle.console.specs.Texts.{refused_text};
 
 use std::fmt;
 
-/// `REFUSED` and the refusal's number.
+/// `REFUSED` and the refusal's number. (A program prints this for a refusal of any crate, so a number is all that the line knows of it.)
 #[derive(Clone, Copy, Drop, PartialEq, Eq, Debug)]
 pub struct Refused {
     pub number: u8,

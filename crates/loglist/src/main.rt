@@ -3,7 +3,7 @@
 #![tactic(auto)]
 
 use console::input::read_or_empty;
-use console::listing::{cell_line, count_line};
+use console::listing::cell_line;
 use console::refused::Refused;
 use logs::event_log::EventLog;
 use std::io;
@@ -11,10 +11,11 @@ use trace::interface::Trace;
 use trace::tally::tally_of;
 
 fn list(rt: &HostRuntime, log: &EventLog<'_>) -> io::Result<()> {
+    // The number of a cell is printed beside what the cell answers.
     for i in 0..log.len() {
         rt.println(cell_line(i, log.cell(i)))?;
     }
-    rt.println(count_line(tally_of(log)))
+    rt.println(tally_of(log))
 }
 
 fn main(rt: HostRuntime) -> io::Result<()> {

@@ -32,6 +32,7 @@ pub(crate) fn cells_of(verdict: Verdict) -> usize
 }
 
 // What the check of a block has to be.
+#[tactic(auto, using(crate::proofs::Blocks::check_none, crate::proofs::Blocks::check_whole))]
 fn check_of(block: &Block) -> u32
     ensures { result ≡ check_of block.now }
 {
@@ -53,6 +54,7 @@ fn well_headed(last: bool, block: &Block) -> bool
 }
 
 /// What is found of a block that ought to have this number, and is the log's last one or not.
+#[tactic(auto, unfolding(crate::specs::Blocks::verdict_of))]
 pub(crate) fn judge(number: usize, last: bool, block: &Block) -> Verdict
     ensures { result ≡ verdict_of number last block.now }
 {

@@ -1,7 +1,9 @@
 //! The causes of damage, and what each kind of log tells of a damaged cell.
-ghost use Rattle.std.specs.Prelude.{◌≡◌};
-ghost use Rattle.logs.specs.Causes.{cause_number};
+ghost use Rattle.std.specs.Prelude.{◌≡◌, Some};
+ghost use Rattle.logs.specs.Causes.{cause_number, damage_text};
 ghost use Rattle.logs.specs.declared.cause.Cause.TheVariants.{NotASign};
+
+use std::fmt;
 
 /// Why a cell is damaged.
 #[derive(Clone, Copy, Drop, PartialEq, Eq, Debug)]
@@ -47,4 +49,15 @@ impl SignDamage {
 pub struct EventDamage {
     pub cause: Cause,
     pub offset: usize,
+}
+
+/// The damage by the number of its cause, and its offset.
+impl fmt::Display for EventDamage {
+    ghost output = { λ damage. Some (damage_text damage) };
+
+    fn fmt<W: fmt::Write>(&self, f: &mut fmt::Formatter<W>) -> fmt::Result {
+        let cause = self.cause.number();
+        let offset = self.offset;
+        write!(f, "cause {cause} at byte {offset}")
+    }
 }

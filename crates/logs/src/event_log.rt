@@ -23,9 +23,10 @@ pub const MOST_BLOCKS: usize = 128;
 #[derive(Clone, Copy, Drop, Debug)]
 pub struct EventLog<'a> {
     bytes: &'a [u8],
-    // what was found of each block of the bytes; past the last block it says nothing
+    // What was found of each block of the bytes; past the last block it says nothing. An array, as opening cannot fail for want of memory.
     verdicts: [Verdict; MOST_BLOCKS],
     cells: usize,
+    // The bytes are whole blocks, and not too many; each block was judged; and the cells of all were counted.
     ghost sized: { WellSized bytes.now },
     ghost judged: { Judged bytes.now verdicts (length bytes.now / 512) },
     ghost counted: { cells ≡ cell_count (length bytes.now / 512) verdicts },
@@ -66,6 +67,7 @@ impl<'a> EventLog<'a> {
 
 impl EventLog<'_> {
     // Cell `n` of a block.
+    #[tactic(auto, using(crate::proofs::EventLogs::record_of_chunk), unfolding(crate::specs::EventLogs::cell_in))]
     fn cell_in(&self, block: usize, n: usize) -> Result<u8, Fault<EventDamage>>
         requires block { block < length self.now.bytes.now / 512 }
         requires cell { n < 126 }
@@ -94,10 +96,12 @@ impl<'a> Trace for EventLog<'a> {
         Self::LETTER_COUNT
     }
 
+    #[tactic(auto, using(crate::specs::EventLaws::length_events))]
     fn len(&self) -> usize {
         self.cells
     }
 
+    #[tactic(auto, using(crate::specs::EventLaws::length_events, crate::specs::EventLaws::cells_within, trace::specs::Rows::cell_past))]
     fn cell(&self, i: usize) -> Result<u8, Fault<EventDamage>> {
         if i >= self.cells {
             return Err(Fault::NoSuchCell);

@@ -15,6 +15,7 @@ const CODES: u8 = 8;
 const LEVELS_A_LETTER: u8 = 64;
 
 /// The letter of the record of these four bytes, which stands at an offset of the log, or its damage.
+#[tactic(auto, unfolding(crate::specs::Records::record_cell))]
 pub(crate) fn read_record(bytes: [u8; 4], offset: usize) -> Result<u8, Fault<EventDamage>>
     ensures { result ≡ shown (record_cell offset (slice_index bytes 0) (slice_index bytes 1) (slice_index bytes 2) (slice_index bytes 3)) }
 {

@@ -17,6 +17,7 @@ pub const MOST_BYTES: usize = 65536;
 #[derive(Clone, Copy, Drop, Debug)]
 pub struct SignLog<'a> {
     bytes: &'a [u8],
+    // The bytes are not too many.
     ghost short: { length bytes.now ≤ 65536 },
 }
 
@@ -57,14 +58,14 @@ impl<'a> Trace for SignLog<'a> {
         Self::LETTER_COUNT
     }
 
+    #[tactic(auto, using(crate::specs::SignLaws::length_signs))]
     fn len(&self) -> usize {
         self.bytes.len()
     }
 
+    #[tactic(auto, using(crate::specs::SignLaws::signs, trace::specs::Rows::rows))]
     fn cell(&self, i: usize) -> Result<u8, Fault<SignDamage>> {
-        if i >= self.len() {
-            return Err(Fault::NoSuchCell);
-        }
-        read_sign(self.bytes[i], i)
+        let byte = self.bytes.get(i).ok_or(Fault::NoSuchCell)?;
+        read_sign(*byte, i)
     }
 }
