@@ -16,8 +16,8 @@ pub trait Trace {
     /// The letter count `K` of this kind of trace; a layer passes on that of the trace below it.
     const LETTER_COUNT: u8;
 
-    // The same number for clauses. (A ghost member of the constant's name is not proved of an impl that has a lifetime, as those of `&T` and of
-    // the logs; so the two are tied by the contract of `letters`, whose body each impl has.)
+    // The same number for clauses; `letters` ties the two, by a body in each `impl`. (A ghost member of the constant's own name would be
+    // tied to it by the check, but not in an `impl` with a lifetime, as those of `&T` and of the logs are.)
     ghost alphabet: { ℕ };
 
     // The row: a letter or a damage for each cell.

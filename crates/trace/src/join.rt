@@ -27,12 +27,14 @@ impl<T: Trace> Trace for Join<T> {
         self.first.letters()
     }
 
+    #[tactic(auto, using(crate::specs::Rows::rows))]
     fn len(&self) -> usize {
         let first = self.first.len();
         let second = self.second.len();
         (first + second).min(MOST_CELLS)
     }
 
+    #[tactic(auto, using(crate::specs::Rows::rows))]
     fn cell(&self, i: usize) -> Result<u8, Fault<Origin<T::Damage>>> {
         if i >= self.len() {
             return Err(Fault::NoSuchCell);

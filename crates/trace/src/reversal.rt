@@ -26,10 +26,12 @@ impl<T: Trace> Trace for Reversal<T> {
         self.below.letters()
     }
 
+    #[tactic(auto, using(crate::specs::Rows::rows))]
     fn len(&self) -> usize {
         self.below.len()
     }
 
+    #[tactic(auto, using(crate::specs::Rows::rows))]
     fn cell(&self, i: usize) -> Result<u8, Fault<T::Damage>> {
         let n = self.below.len();
         if i >= n {

@@ -28,10 +28,12 @@ impl<T: Trace> Trace for Window<T> {
         self.below.letters()
     }
 
+    #[tactic(auto, using(crate::specs::Rows::rows))]
     fn len(&self) -> usize {
         self.to.min(self.below.len()).saturating_sub(self.from)
     }
 
+    #[tactic(auto, using(crate::specs::Rows::rows))]
     fn cell(&self, i: usize) -> Result<u8, Fault<T::Damage>> {
         if i >= self.len() {
             return Err(Fault::NoSuchCell);

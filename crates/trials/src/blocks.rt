@@ -3,20 +3,18 @@ use std::alloc::{AllocError, Global};
 
 /// The block with its check made to hold. The weights go down from the last word to the first, so this is another sum than the library's.
 pub fn sealed(mut block: [u8; 512]) -> [u8; 512] {
+    let (words, _) = block.as_chunks::<4>();
     let mut sum: u64 = 1;
     let mut weight: u64 = 253;
-    for w in (0..127usize).rev() {
-        let high = u64::from(block[4 * w]) * 256 + u64::from(block[4 * w + 1]);
-        let low = u64::from(block[4 * w + 2]) * 256 + u64::from(block[4 * w + 3]);
+    for word in words[..127].iter().rev() {
+        let [a, b, c, d] = *word;
+        let high = u64::from(a) * 256 + u64::from(b);
+        let low = u64::from(c) * 256 + u64::from(d);
         sum = sum.wrapping_add(weight.wrapping_mul(high * 65536 + low));
         weight = weight.wrapping_sub(2);
     }
     let check = (sum & 0xffff_ffff) as u32;
-    let [a, b, c, d] = check.to_be_bytes();
-    block[508] = a;
-    block[509] = b;
-    block[510] = c;
-    block[511] = d;
+    block[508..].copy_from_slice(&check.to_be_bytes());
     block
 }
 

@@ -1,5 +1,6 @@
 //! Event logs: the worked examples, each cause, and each refusal at its limit.
 use crate::blocks::{headed, sealed, two_blocks};
+use crate::damage::{damaged, event};
 use logs::cause::{Cause, EventDamage};
 use logs::event_log::EventLog;
 use logs::refusal::OpenRefusal;
@@ -9,16 +10,9 @@ use trace::fault::Fault;
 use trace::interface::Trace;
 use trace::tally::{Tally, tally_of};
 
-fn damaged(cause: Cause, offset: usize) -> Result<u8, Fault<EventDamage>> {
-    Err(Fault::Damaged(EventDamage { cause, offset }))
-}
-
 // What opening refuses, if it does.
 fn refusal(bytes: &[u8]) -> Option<OpenRefusal> {
-    match EventLog::open(bytes) {
-        Ok(_) => None,
-        Err(refusal) => Some(refusal),
-    }
+    EventLog::open(bytes).err()
 }
 
 // Block 0 with the one event at minute 60: dim, to level 200.
@@ -56,7 +50,7 @@ fn a_block_of_zeros(rt: HostRuntime) -> Result<(), Fail> {
             damaged: 126,
         }
     );
-    assert!(rt; log.cell(125) == damaged(Cause::Check, 0));
+    assert!(rt; log.cell(125) == damaged(event(Cause::Check, 0)));
     block[511] = 1;
     assert_eq!(rt; EventLog::open(&block)?.len(), 0);
     Ok(())
@@ -74,10 +68,10 @@ fn causes_in_their_order(rt: HostRuntime) -> Result<(), Fail> {
     let heap = rt.alloc();
     assert!(rt; behind(heap, &sealed(headed(1, 3, 0)))? == (129, Ok(0)));
     // number, count and fourth byte are wrong, and so is the check, which counts first
-    assert!(rt; behind(heap, &headed(2, 127, 1))? == (252, damaged(Cause::Check, 512)));
-    assert!(rt; behind(heap, &sealed(headed(2, 127, 1)))? == (252, damaged(Cause::Number, 512)));
-    assert!(rt; behind(heap, &sealed(headed(1, 127, 0)))? == (252, damaged(Cause::Header, 512)));
-    assert!(rt; behind(heap, &sealed(headed(1, 126, 1)))? == (252, damaged(Cause::Header, 512)));
+    assert!(rt; behind(heap, &headed(2, 127, 1))? == (252, damaged(event(Cause::Check, 512))));
+    assert!(rt; behind(heap, &sealed(headed(2, 127, 1)))? == (252, damaged(event(Cause::Number, 512))));
+    assert!(rt; behind(heap, &sealed(headed(1, 127, 0)))? == (252, damaged(event(Cause::Header, 512))));
+    assert!(rt; behind(heap, &sealed(headed(1, 126, 1)))? == (252, damaged(event(Cause::Header, 512))));
     assert!(rt; behind(heap, &sealed(headed(1, 126, 0)))? == (252, Ok(0)));
     Ok(())
 }
@@ -91,7 +85,7 @@ fn only_the_last_block_is_short(rt: HostRuntime) -> Result<(), Fail> {
     )?;
     let log = EventLog::open(bytes.as_slice())?;
     assert_eq!(rt; log.len(), 126);
-    assert!(rt; log.cell(125) == damaged(Cause::Header, 0));
+    assert!(rt; log.cell(125) == damaged(event(Cause::Header, 0)));
     Ok(())
 }
 
@@ -114,8 +108,8 @@ fn records_out_of_range(rt: HostRuntime) -> Result<(), Fail> {
     let bytes = sealed(block);
     let log = EventLog::open(&bytes)?;
     assert!(rt; log.cell(0) == Ok(31));
-    assert!(rt; log.cell(1) == damaged(Cause::Record, 8));
-    assert!(rt; log.cell(2) == damaged(Cause::Record, 12));
+    assert!(rt; log.cell(1) == damaged(event(Cause::Record, 8)));
+    assert!(rt; log.cell(2) == damaged(event(Cause::Record, 12)));
     assert!(rt; log.cell(3) == Ok(0));
     assert!(rt; log.cell(4) == Err(Fault::NoSuchCell));
     Ok(())

@@ -1,6 +1,7 @@
 //! Layers: piles of four and more over each kind of log, with damage from deep inside.
 use crate::blocks::{headed, sealed};
-use logs::cause::{Cause, EventDamage, SignDamage};
+use crate::damage::{damaged, event};
+use logs::cause::{Cause, SignDamage};
 use logs::event_log::EventLog;
 use logs::sign_log::SignLog;
 use std::test::Fail;
@@ -49,9 +50,9 @@ fn a_pile_over_sign_logs(rt: HostRuntime) -> Result<(), Fail> {
     // D?B!Y without its first cell, from the end: Y!B?
     assert_eq!(rt; pile.len(), 4);
     assert!(rt; pile.cell(0) == Ok(24));
-    assert!(rt; pile.cell(1) == Err(Fault::Damaged(Origin::Second(SignDamage { offset: 2 }))));
+    assert!(rt; pile.cell(1) == damaged(Origin::Second(SignDamage { offset: 2 })));
     assert!(rt; pile.cell(2) == Ok(1));
-    assert!(rt; pile.cell(3) == Err(Fault::Damaged(Origin::First(SignDamage { offset: 2 }))));
+    assert!(rt; pile.cell(3) == damaged(Origin::First(SignDamage { offset: 2 })));
     assert!(rt; pile.cell(4) == Err(Fault::NoSuchCell));
     assert_eq!(rt;
         tally_of(&pile),
@@ -72,9 +73,9 @@ fn a_pile_over_event_logs(rt: HostRuntime) -> Result<(), Fail> {
     let pile = joins_in_a_join(EventLog::open(&bytes)?, EventLog::open(&[0; 512])?);
     assert_eq!(rt; pile.len(), 4);
     assert!(rt; pile.cell(0) == Ok(0));
-    assert!(rt; pile.cell(1) == damaged_twice(Origin::Second(Origin::First(check_of(0)))));
-    assert!(rt; pile.cell(2) == damaged_twice(Origin::First(Origin::Second(check_of(0)))));
-    assert!(rt; pile.cell(3) == damaged_twice(Origin::First(Origin::First(record_of(8)))));
+    assert!(rt; pile.cell(1) == damaged(Origin::Second(Origin::First(event(Cause::Check, 0)))));
+    assert!(rt; pile.cell(2) == damaged(Origin::First(Origin::Second(event(Cause::Check, 0)))));
+    assert!(rt; pile.cell(3) == damaged(Origin::First(Origin::First(event(Cause::Record, 8)))));
     assert!(rt; pile.cell(4) == Err(Fault::NoSuchCell));
     assert_eq!(rt; pile.letters(), 32);
     Ok(())
@@ -99,31 +100,11 @@ fn joins_in_a_join<'a>(
     })
 }
 
-fn damaged_twice(
-    damage: Origin<Origin<EventDamage>>,
-) -> Result<u8, Fault<Origin<Origin<EventDamage>>>> {
-    Err(Fault::Damaged(damage))
-}
-
-fn check_of(offset: usize) -> EventDamage {
-    EventDamage {
-        cause: Cause::Check,
-        offset,
-    }
-}
-
-fn record_of(offset: usize) -> EventDamage {
-    EventDamage {
-        cause: Cause::Record,
-        offset,
-    }
-}
-
 #[test]
 fn a_lent_pile(rt: HostRuntime) -> Result<(), Fail> {
     let log = SignLog::open(b"A.C")?;
     let pile = turned(&log);
-    assert!(rt; pile.cell(1) == Err(Fault::Damaged(SignDamage { offset: 1 })));
+    assert!(rt; pile.cell(1) == damaged(SignDamage { offset: 1 }));
     assert_eq!(rt; tally_of(&&pile).letters, 2);
     Ok(())
 }

@@ -3,6 +3,8 @@
 
 pub mod blocks;
 #[cfg(test)]
+mod damage;
+#[cfg(test)]
 mod event_logs;
 #[cfg(test)]
 mod layers;

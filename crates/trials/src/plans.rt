@@ -6,13 +6,9 @@ use std::test::Fail;
 
 /// The number of the refusal and its line (0 where it names none), or (0, 0) for a plan.
 fn refused(answer: Result<Plan, PlanRefusal>) -> (u8, usize) {
-    match answer {
-        Ok(_) => (0, 0),
-        Err(refusal) => match refusal.line() {
-            Some(line) => (refusal.number(), line),
-            None => (refusal.number(), 0),
-        },
-    }
+    answer.err().map_or((0, 0), |refusal| {
+        (refusal.number(), refusal.line().unwrap_or(0))
+    })
 }
 
 #[test]

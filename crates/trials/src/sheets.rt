@@ -32,16 +32,12 @@ fn aba(heap: Global) -> Result<Sheet, Fail> {
 
 /// So many bytes of the buffer, or all.
 fn front(bytes: &[u8], n: usize) -> &[u8] {
-    if n <= bytes.len() {
-        &bytes[0..n]
-    } else {
-        bytes
-    }
+    bytes.get(..n).unwrap_or(bytes)
 }
 
 /// A byte of the buffer, 0 past its end.
 fn byte(bytes: &[u8], i: usize) -> u8 {
-    if i < bytes.len() { bytes[i] } else { 0 }
+    bytes.get(i).copied().unwrap_or(0)
 }
 
 /// The number of the refusal, 0 for a sheet.

@@ -5,9 +5,6 @@ use Rattle.trace.specs.Layers.{reanswer}
 use Rattle.trace.proofs.Faults.{reanswered}
 use Rattle.trace.proofs.join.JoinTrace.cell.Goals as goal
 
-pub returns-then-i-len : goal.returns-then-i-len
-returns-then-i-len g c = search (rules, rows)
-
 pub returns-then-i-n : goal.returns-then-i-n
 returns-then-i-n g c =
     reanswered First _ (λ x y h. search rules) c.cell.result c.map_err.result c.map_err.ensures.cases

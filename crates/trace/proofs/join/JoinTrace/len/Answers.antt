@@ -1,6 +1,0 @@
-use Rattle.std.proofs.Common.{rules}
-use Rattle.trace.specs.Rows.{rows}
-use Rattle.trace.proofs.join.JoinTrace.len.Goals as goal
-
-pub returns : goal.returns
-returns g c = search (rules, rows)
