@@ -32,14 +32,14 @@ pub struct EventLog<'a> {
     ghost counted: { cells ≡ cell_count (length bytes.now / 512) verdicts },
 }
 
-// The cells of so many blocks: each but the last gives 126.
-fn count_cells(blocks: usize, verdicts: &[Verdict; MOST_BLOCKS]) -> usize
-    requires { blocks ≤ 128 }
-    ensures { result ≡ cell_count blocks verdicts.now }
+// The cells of all blocks, of which this was found: each block but the last gives 126.
+fn count_cells(verdicts: &[Verdict]) -> usize
+    requires { length verdicts.now ≤ 128 }
+    ensures { result ≡ cell_count (length verdicts.now) verdicts.now }
 {
-    match blocks {
-        0 => 0,
-        _ => BLOCK_RECORDS * (blocks - 1) + cells_of(verdicts[blocks - 1]),
+    match verdicts.split_last() {
+        None => 0,
+        Some((last, before)) => BLOCK_RECORDS * before.len() + cells_of(*last),
     }
 }
 
@@ -56,7 +56,7 @@ impl<'a> EventLog<'a> {
         for (place, block) in blocks.iter().enumerate() {
             verdicts[place] = judge(place, place + 1 == blocks.len(), block);
         }
-        let cells = count_cells(blocks.len(), &verdicts);
+        let cells = count_cells(&verdicts[..blocks.len()]);
         Ok(EventLog {
             bytes,
             verdicts,
