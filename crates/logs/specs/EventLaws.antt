@@ -3,7 +3,7 @@
 --   cell_of i         cell i of such a log: every block but the last gives 126 cells, so that its block is i / 126
 --   list_from s n f   f s, f (s + 1), .., n of them
 -- Assumes nothing.
-use Rattle.std.proofs.Common.{◌≡◌, ℕ, zero, suc, ◌+◌, ◌*◌, ◌/◌, ◌%◌, ◌<◌, ◌≤◌, Bool, true, false, cond, eqb, ◌&&◌, List, [], ◌∷◌, ◌++◌, length, get_or, take, drop, replicate, Ok, Err, Result, sym, refl, ap, subst, ◌∙◌, append-nil, add-zero, zero-add, suc-add, add-suc, not-suc-le-zero, le_of_suc-le-suc, arith, lit≤, get_or-drop, get_or-take, drop-drop}
+use Rattle.std.proofs.Common.{◌≡◌, ℕ, zero, suc, ◌+◌, ◌*◌, ◌/◌, ◌%◌, ◌<◌, ◌≤◌, Bool, true, false, cond, eqb, ◌&&◌, List, [], ◌∷◌, ◌++◌, length, get_or, drop, replicate, Ok, Err, Result, sym, refl, ap, subst, ◌∙◌, append-nil, add-zero, zero-add, suc-add, add-suc, not-suc-le-zero, le_of_suc-le-suc, arith, lit≤, get_or-drop, get_or-take, drop-drop}
 use Rattle.std.specs.Prelude.{nat_lt, slice_index_or}
 use Rattle.std.proofs.lemmas.Bool.{cond_both, and_parts, ltb-true, eq-eqb, ne_eqb}
 use Rattle.std.proofs.lemmas.Bool.Decides.{nat_tests}
@@ -13,7 +13,7 @@ use Rattle.logs.specs.declared.cause.Cause.TheVariants.{Check, Number, Header, R
 use Rattle.logs.specs.declared.cause.EventDamage.{EventDamage}
 use Rattle.logs.specs.Blocks.{byte, word16, word32, check_of, well_headed, Verdict, verdict_of}
 use Rattle.logs.specs.Records.{letter_of, damage_of, record_cell}
-use Rattle.logs.specs.EventLogs.{record_cells, block_cells, cells_from, event_row, record_at, cell_in, block_at, cells_of, cell_count, verdict_at, Judged, WellSized}
+use Rattle.logs.specs.EventLogs.{record_cells, block_cells, cells_from, event_row, record_at, cell_in, block_at, cells_of, cell_count, Judged, WellSized}
 
 abbrev pub cell_of : List ℕ → List Verdict → ℕ → Result ℕ EventDamage
 cell_of bytes verdicts i = cell_in (i / 126) (i % 126) (slice_index_or verdicts (i / 126) (Ok 0)) bytes

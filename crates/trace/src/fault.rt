@@ -1,8 +1,8 @@
 //! Why a cell answers no letter.
 ghost use Rattle.trace.specs.Faults.{ForDamage, Retold};
 
-/// There is no such cell, or the cell is damaged, and the damage is what its kind of log says of it. (An error with a name for each case; an
-/// `Option` of a damage would not say what none means.)
+/// There is no such cell, or the cell is damaged, and the damage is what its kind of log says of it. (An error with a name for each case:
+/// an `Option` of a damage would not say what none means.)
 #[derive(Clone, Copy, Drop, PartialEq, Eq, Debug)]
 pub enum Fault<D> {
     NoSuchCell,
