@@ -213,10 +213,16 @@ module _ (bytes : List ℕ) (verdicts : List Verdict) (cells : ℕ) (judged : Ju
   pub cells_within : cells ≤ 126 * (length bytes / 512)
   cells_within = omega (arith, count_within bytes verdicts (length bytes / 512) judged)
 
-pub lawful_events : (bytes : List ℕ) (verdicts : List Verdict) (cells : ℕ) → WellSized bytes → Judged bytes verdicts (length bytes / 512) → cells ≡ cell_count (length bytes / 512) verdicts → Lawful 32 (event_row bytes)
-lawful_events bytes verdicts cells sized judged counted = record {
+-- so many cells of any bytes and verdicts are lawful
+pub lawful_cells : (bytes : List ℕ) (verdicts : List Verdict) (n : ℕ) → n ≤ 16777216 → Lawful 32 (list_from 0 n (cell_of bytes verdicts))
+lawful_cells bytes verdicts n h = record {
   some_letter = lit≤ tt;
   few_letters = lit≤ tt;
-  short = omega (arith, sized.1, length_events bytes verdicts cells judged counted, cells_within bytes verdicts cells judged counted);
-  lettered = subst (Lettered 32) (sym (row_shown bytes verdicts cells judged counted)) (lettered_list_from (cell_of bytes verdicts) 32 (λ i. cell_in_below (i / 126) (i % 126) (slice_index_or verdicts (i / 126) (Ok 0)) bytes) 0 cells);
+  short = omega (arith, length_list_from 0 n (cell_of bytes verdicts));
+  lettered = lettered_list_from (cell_of bytes verdicts) 32 (λ i. cell_in_below (i / 126) (i % 126) (slice_index_or verdicts (i / 126) (Ok 0)) bytes) 0 n;
 }
+
+pub lawful_events : (bytes : List ℕ) (verdicts : List Verdict) (cells : ℕ) → WellSized bytes → Judged bytes verdicts (length bytes / 512) → cells ≡ cell_count (length bytes / 512) verdicts → Lawful 32 (event_row bytes)
+lawful_events bytes verdicts cells sized judged counted =
+    let few : cells ≤ 16777216 = omega (arith, sized.1, cells_within bytes verdicts cells judged counted) in
+    subst (Lawful 32) (sym (row_shown bytes verdicts cells judged counted)) (lawful_cells bytes verdicts cells few)
