@@ -7,7 +7,7 @@ use Rattle.reading.proofs.states.Reading.new.Goals as goal
 
 pub unreachable-requires : goal.unreachable-requires
 unreachable-requires g c =
-    let l = g.T.Trace.lawful c.args.trace in
+    let l = g.met.T.Trace.lawful c.args.trace in
     never_refused c.letters-letters.result _ _ (omega (arith, c.letters-letters.ensures, l.some_letter)) (omega (arith, c.letters-letters.ensures, l.few_letters)) c.in_default.ensures.answer
 
 pub invariant_of-result : goal.invariant_of-result

@@ -19,7 +19,7 @@ returns-then-least-eq0 g c =
       answer = n;
       counted = omega arith;
       kept = refl;
-      hit = λ answers s. hit_is me (g.T.Trace.lawful me.reading.trace) s None _ n;
+      hit = λ answers s. hit_is me (g.met.T.Trace.lawful me.reading.trace) s None _ n;
       standing = λ answers s. record { lettered = s.lettered; reached = asked s.reached n; counted = s.counted };
     }
 
@@ -31,7 +31,7 @@ loop-at-init g c = (omega arith, c.places.invariant.0, onward_here _ _ _ c.place
 
 jumps : (g : given.Over) (c : goal.After-jump-at g) → Went (automaton_of c.args.self.now.reading.sheet) c.shortest-least.result (letters_in (g.T.Trace.row c.args.self.now.reading.trace)) c.loop-at.at c.jump-at.result
 jumps g c =
-    let l = g.T.Trace.lawful c.args.self.now.reading.trace in
+    let l = g.met.T.Trace.lawful c.args.self.now.reading.trace in
     jump_went _ _ _ c.loop-at.at c.follow-to.result.0 c.jump-at.result
     (turn l _ _ c.loop-at.at c.follow-to.result.0 c.len-len.ensures c.loop-at.invariant.0 c.if-least-eq0.false c.shortest-least.type_inv c.loop-at.invariant.2.roomy c.follow-to.ensures.looked)
     (sym c.in-None.is ∙ c.follow-to.ensures.answer)
@@ -45,7 +45,7 @@ places-preserved g c = (c.loop-at.invariant.1, onward_trans c.places.invariant.1
 
 steps : (g : given.Over) (c : goal.Else-marks-ne0 g) → Went (automaton_of c.args.self.now.reading.sheet) c.shortest-least.result (letters_in (g.T.Trace.row c.args.self.now.reading.trace)) c.loop-at.at c.step-at.result
 steps g c =
-    let l = g.T.Trace.lawful c.args.self.now.reading.trace in
+    let l = g.met.T.Trace.lawful c.args.self.now.reading.trace in
     step_went _ _ _ c.loop-at.at c.follow-to.result.0 c.step-at.result
     (turn l _ _ c.loop-at.at c.follow-to.result.0 c.len-len.ensures c.loop-at.invariant.0 c.if-least-eq0.false c.shortest-least.type_inv c.loop-at.invariant.2.roomy c.follow-to.ensures.looked)
     c.in-Some.q
@@ -62,7 +62,7 @@ loop-at-preserved g c =
 
 pub overflow_sub-found : goal.overflow_sub-found
 overflow_sub-found g c =
-    let l = g.T.Trace.lawful c.args.self.now.reading.trace in
+    let l = g.met.T.Trace.lawful c.args.self.now.reading.trace in
     (step_room (automaton_of c.args.self.now.reading.sheet) _ _ c.loop-at.at c.follow-to.result.0 c.step-at.result
     (turn l _ _ c.loop-at.at c.follow-to.result.0 c.len-len.ensures c.loop-at.invariant.0 c.if-least-eq0.false c.shortest-least.type_inv c.loop-at.invariant.2.roomy c.follow-to.ensures.looked)
     c.in-Some.q
@@ -78,7 +78,7 @@ leaves g c =
       | else-places-test w ↦
           leaves_end _ _ _ _ c.places.at _ _ w.at-is (w.found-is ∙ c.places.invariant.0) c.places.invariant.1 (omega (arith, c.len-len.ensures, w.places-test.false, length_letters cells))
       | then-places-test+in-Some+then-marks-ne0 w ↦
-          let t = turn (g.T.Trace.lawful c.args.self.now.reading.trace) _ _ w.loop-at.at w.follow-to.result.0 c.len-len.ensures w.loop-at.invariant.0 c.if-least-eq0.false c.shortest-least.type_inv w.loop-at.invariant.2.roomy w.follow-to.ensures.looked in
+          let t = turn (g.met.T.Trace.lawful c.args.self.now.reading.trace) _ _ w.loop-at.at w.follow-to.result.0 c.len-len.ensures w.loop-at.invariant.0 c.if-least-eq0.false c.shortest-least.type_inv w.loop-at.invariant.2.roomy w.follow-to.ensures.looked in
           let e = sym w.in-Some.is ∙ w.follow-to.ensures.answer in
           leaves_found _ _ _ _ w.loop-at.at w.step-at.result _ _ _ w.at-is w.found-is
           (onward_trans c.places.invariant.1 w.loop-at.invariant.2)
@@ -100,6 +100,6 @@ returns g c =
       answer = n;
       counted = omega (arith, c.count_of.ensures.answer);
       kept = refl;
-      hit = λ answers s. hit_is me (g.T.Trace.lawful me.reading.trace) s _ _ n;
+      hit = λ answers s. hit_is me (g.met.T.Trace.lawful me.reading.trace) s _ _ n;
       standing = λ answers s. record { lettered = s.lettered; reached = asked s.reached n; counted = omega (arith, s.counted, c.count_of.ensures.answer, count_more answers c.places-test.found) };
     }
