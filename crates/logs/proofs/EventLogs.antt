@@ -1,5 +1,5 @@
 -- One block more of an event log was judged; and where a cell of the log stands. Assumes nothing.
-use Rattle.std.proofs.Common.{◌≡◌, ℕ, ◌+◌, ◌*◌, ◌/◌, ◌%◌, ◌<◌, ◌≤◌, eqb, ◌≢◌, List, [], length, get_or, take, drop, set, Ok, Err, ap, ◌∙◌, sym, add-zero, lit≤, arith, get_or-set_other, get_or-set_same, below_more}
+use Rattle.std.proofs.Common.{◌≡◌, ℕ, ◌+◌, ◌*◌, ◌/◌, ◌<◌, eqb, ◌≢◌, List, [], length, get_or, take, drop, set, Ok, ap, ◌∙◌, add-zero, lit≤, arith, get_or-set_other, get_or-set_same, below_more}
 use Rattle.std.specs.Simd.{first_chunks}
 use Rattle.logs.specs.Blocks.{byte, Verdict, verdict_of}
 use Rattle.logs.specs.Records.{record_cell}

@@ -3,7 +3,7 @@
 --   cell_of i         cell i of such a log: every block but the last gives 126 cells, so that its block is i / 126
 --   list_from s n f   f s, f (s + 1), .., n of them
 -- Assumes nothing.
-use Rattle.std.proofs.Common.{◌≡◌, ℕ, zero, suc, ◌+◌, ◌*◌, ◌/◌, ◌%◌, ◌<◌, ◌≤◌, Bool, true, false, cond, eqb, ◌&&◌, List, [], ◌∷◌, ◌++◌, length, get_or, take, drop, replicate, Ok, Err, Result, sym, refl, ap, subst, ◌∙◌, append-nil, add-zero, zero-add, suc-add, add-suc, not-suc-le-zero, le_of_suc-le-suc, arith, lit≤, get_or-drop, get_or-take, drop-drop}
+use Rattle.std.proofs.Common.{◌≡◌, ℕ, zero, suc, ◌+◌, ◌*◌, ◌/◌, ◌%◌, ◌<◌, ◌≤◌, Bool, true, false, cond, eqb, ◌&&◌, List, [], ◌∷◌, ◌++◌, length, get_or, drop, replicate, Ok, Err, Result, sym, refl, ap, subst, ◌∙◌, append-nil, add-zero, zero-add, suc-add, add-suc, not-suc-le-zero, le_of_suc-le-suc, arith, lit≤, get_or-drop, get_or-take, drop-drop}
 use Rattle.std.specs.Prelude.{nat_lt, slice_index_or}
 use Rattle.std.proofs.lemmas.Bool.{cond_both, and_parts, ltb-true, eq-eqb, ne_eqb}
 use Rattle.std.proofs.lemmas.Bool.Decides.{nat_tests}
@@ -13,7 +13,7 @@ use Rattle.logs.specs.declared.cause.Cause.TheVariants.{Check, Number, Header, R
 use Rattle.logs.specs.declared.cause.EventDamage.{EventDamage}
 use Rattle.logs.specs.Blocks.{byte, word16, word32, check_of, well_headed, Verdict, verdict_of}
 use Rattle.logs.specs.Records.{letter_of, damage_of, record_cell}
-use Rattle.logs.specs.EventLogs.{record_cells, block_cells, cells_from, event_row, record_at, cell_in, block_at, cells_of, cell_count, verdict_at, Judged, WellSized}
+use Rattle.logs.specs.EventLogs.{record_cells, block_cells, cells_from, event_row, record_at, cell_in, block_at, cells_of, cell_count, Judged, WellSized}
 
 abbrev pub cell_of : List ℕ → List Verdict → ℕ → Result ℕ EventDamage
 cell_of bytes verdicts i = cell_in (i / 126) (i % 126) (slice_index_or verdicts (i / 126) (Ok 0)) bytes
@@ -213,10 +213,16 @@ module _ (bytes : List ℕ) (verdicts : List Verdict) (cells : ℕ) (judged : Ju
   pub cells_within : cells ≤ 126 * (length bytes / 512)
   cells_within = omega (arith, count_within bytes verdicts (length bytes / 512) judged)
 
-pub lawful_events : (bytes : List ℕ) (verdicts : List Verdict) (cells : ℕ) → WellSized bytes → Judged bytes verdicts (length bytes / 512) → cells ≡ cell_count (length bytes / 512) verdicts → Lawful 32 (event_row bytes)
-lawful_events bytes verdicts cells sized judged counted = record {
+-- so many cells of any bytes and verdicts are lawful
+pub lawful_cells : (bytes : List ℕ) (verdicts : List Verdict) (n : ℕ) → n ≤ 16777216 → Lawful 32 (list_from 0 n (cell_of bytes verdicts))
+lawful_cells bytes verdicts n h = record {
   some_letter = lit≤ tt;
   few_letters = lit≤ tt;
-  short = omega (arith, sized.1, length_events bytes verdicts cells judged counted, cells_within bytes verdicts cells judged counted);
-  lettered = subst (Lettered 32) (sym (row_shown bytes verdicts cells judged counted)) (lettered_list_from (cell_of bytes verdicts) 32 (λ i. cell_in_below (i / 126) (i % 126) (slice_index_or verdicts (i / 126) (Ok 0)) bytes) 0 cells);
+  short = omega (arith, length_list_from 0 n (cell_of bytes verdicts));
+  lettered = lettered_list_from (cell_of bytes verdicts) 32 (λ i. cell_in_below (i / 126) (i % 126) (slice_index_or verdicts (i / 126) (Ok 0)) bytes) 0 n;
 }
+
+pub lawful_events : (bytes : List ℕ) (verdicts : List Verdict) (cells : ℕ) → WellSized bytes → Judged bytes verdicts (length bytes / 512) → cells ≡ cell_count (length bytes / 512) verdicts → Lawful 32 (event_row bytes)
+lawful_events bytes verdicts cells sized judged counted =
+    let few : cells ≤ 16777216 = omega (arith, sized.1, cells_within bytes verdicts cells judged counted) in
+    subst (Lawful 32) (sym (row_shown bytes verdicts cells judged counted)) (lawful_cells bytes verdicts cells few)

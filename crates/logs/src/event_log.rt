@@ -74,7 +74,10 @@ impl EventLog<'_> {
         ensures { result ≡ shown (cell_in block n (slice_index_or self.now.verdicts block (Ok 0)) self.now.bytes.now) }
     {
         let offset = BLOCK_BYTES * block;
-        let _ = self.verdicts[block].map_err(|cause| Fault::Damaged(EventDamage { cause, offset }))?;
+        let _ = self.verdicts[block].map_err(|cause| Fault::Damaged(EventDamage {
+            cause,
+            offset,
+        }))?;
         let at = offset + RECORDS_AT + 4 * n;
         let (words, _) = self.bytes.as_chunks::<4>();
         read_record(words[at / 4], at)

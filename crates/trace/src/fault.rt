@@ -1,8 +1,8 @@
 //! Why a cell answers no letter.
 ghost use Rattle.trace.specs.Faults.{ForDamage, Retold};
 
-/// There is no such cell, or the cell is damaged, and the damage is what its kind of log says of it. (An error with a name for each case; an
-/// `Option` of a damage would not say what none means.)
+/// There is no such cell, or the cell is damaged, and the damage is what its kind of log says of it. (An error with a name for each case:
+/// an `Option` of a damage would not say what none means.)
 #[derive(Clone, Copy, Drop, PartialEq, Eq, Debug)]
 pub enum Fault<D> {
     NoSuchCell,
@@ -18,7 +18,7 @@ pub enum Origin<D> {
 
 impl<D> Fault<D> {
     /// The same fault, its damage told anew by `tell`.
-    pub fn map<E, F: FnOnce(D) -> E>(self, tell: F) -> Fault<E>
+    pub(crate) fn map<E, F: FnOnce(D) -> E>(self, tell: F) -> Fault<E>
         requires { ForDamage self (F.pre tell) }
         ensures { Retold (F.post tell) self result }
     {

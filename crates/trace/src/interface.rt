@@ -42,6 +42,7 @@ pub trait Trace {
         self.len() == 0
     }
 
-    // The law that each `impl` proves of its row: from 1 to 32 letters, each letter of the row one of them, and no more cells than `MOST_CELLS`.
+    // The law that each `impl` proves of its row: from 1 to 32 letters, each letter of the row one of them, and no more cells than
+    // `MOST_CELLS`.
     ghost lawful: { (x : Self) → Lawful alphabet (row x) };
 }

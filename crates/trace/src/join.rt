@@ -43,7 +43,9 @@ impl<T: Trace> Trace for Join<T> {
         if i < n {
             self.first.cell(i).map_err(|fault| fault.map(Origin::First))
         } else {
-            self.second.cell(i - n).map_err(|fault| fault.map(Origin::Second))
+            self.second
+                .cell(i - n)
+                .map_err(|fault| fault.map(Origin::Second))
         }
     }
 }

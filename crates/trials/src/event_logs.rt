@@ -69,9 +69,15 @@ fn causes_in_their_order(rt: HostRuntime) -> Result<(), Fail> {
     assert!(rt; behind(heap, &sealed(headed(1, 3, 0)))? == (129, Ok(0)));
     // number, count and fourth byte are wrong, and so is the check, which counts first
     assert!(rt; behind(heap, &headed(2, 127, 1))? == (252, damaged(event(Cause::Check, 512))));
-    assert!(rt; behind(heap, &sealed(headed(2, 127, 1)))? == (252, damaged(event(Cause::Number, 512))));
-    assert!(rt; behind(heap, &sealed(headed(1, 127, 0)))? == (252, damaged(event(Cause::Header, 512))));
-    assert!(rt; behind(heap, &sealed(headed(1, 126, 1)))? == (252, damaged(event(Cause::Header, 512))));
+    assert!(rt;
+        behind(heap, &sealed(headed(2, 127, 1)))? == (252, damaged(event(Cause::Number, 512)))
+    );
+    assert!(rt;
+        behind(heap, &sealed(headed(1, 127, 0)))? == (252, damaged(event(Cause::Header, 512)))
+    );
+    assert!(rt;
+        behind(heap, &sealed(headed(1, 126, 1)))? == (252, damaged(event(Cause::Header, 512)))
+    );
     assert!(rt; behind(heap, &sealed(headed(1, 126, 0)))? == (252, Ok(0)));
     Ok(())
 }

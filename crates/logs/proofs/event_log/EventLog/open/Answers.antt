@@ -1,4 +1,4 @@
-use Rattle.std.proofs.Common.{refl, arith, length-set}
+use Rattle.std.proofs.Common.{arith, length-set}
 use Rattle.logs.proofs.EventLogs.{judged_more}
 use Rattle.logs.proofs.event_log.EventLog.open.Goals as goal
 
