@@ -50,6 +50,7 @@ impl DrawRefusal {
     pub fn number(self) -> u8
         ensures answer { result ≡ draw_number_of self }
     {
+        // Each enum casts itself: a trait over all refusals would ask for this body in each `impl`.
         self as u8
     }
 }

@@ -25,6 +25,7 @@ impl Cause {
     pub fn number(self) -> u8
         ensures { result ≡ cause_number self }
     {
+        // Each enum casts itself: a trait over all such enums would ask for this body in each `impl`.
         self as u8
     }
 }

@@ -16,6 +16,7 @@ impl OpenRefusal {
     pub fn number(self) -> u8
         ensures { result ≡ refusal_number self }
     {
+        // Each enum casts itself: a trait over all refusals would ask for this body in each `impl`.
         self as u8
     }
 }

@@ -60,6 +60,7 @@ impl PlanRefusal {
     pub fn number(self) -> u8
         ensures answer { result ≡ number_of self }
     {
+        // A refusal with a line in it is not cast, so the first two numbers stand here, and those of a line at its faults.
         match self {
             PlanRefusal::Letters => 1,
             PlanRefusal::Text => 2,

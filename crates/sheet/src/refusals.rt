@@ -28,6 +28,7 @@ impl SheetRefusal {
     pub fn number(self) -> u8
         ensures answer { result ≡ number_of self }
     {
+        // Each enum casts itself: a trait over all refusals would ask for this body in each `impl`.
         self as u8
     }
 }

@@ -9,7 +9,7 @@ pub enum Fault<D> {
     Damaged(D),
 }
 
-/// A damage with the log that it comes from, of the two that a join shows.
+/// A damage with the log that it comes from, of the two that a join shows. (No `Result`: neither log is the other's error.)
 #[derive(Clone, Copy, Drop, PartialEq, Eq, Debug)]
 pub enum Origin<D> {
     First(D),
