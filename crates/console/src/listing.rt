@@ -7,7 +7,7 @@ use std::fmt;
 use trace::fault::Fault;
 use trace::signs::sign_of;
 
-/// What there is to say of a cell.
+/// What there is to say of a cell. (No `Result`: it holds what is printed, a sign in place of the letter.)
 #[derive(Clone, Copy, Drop, PartialEq, Eq, Debug)]
 pub enum CellLine {
     /// There is no such cell.
@@ -31,7 +31,7 @@ impl fmt::Display for CellLine {
 }
 
 /// The line of a cell of an event log, by what asking for it answered. (A log's letters all have signs; a number that is no letter is shown
-/// as `?`. This is no `From`: an answer does not know the number of its cell.)
+/// as `?`. A `From` of the number with the answer would be no plainer.)
 pub fn cell_line(cell: usize, answer: Result<u8, Fault<EventDamage>>) -> CellLine
     ensures { result ≡ line_of cell answer }
 {

@@ -62,7 +62,7 @@ impl<'a, 'p> Plot<'a, 'p> {
             |_| DrawError::NoMemory,
         )?;
         for entry in &self.table.used()[1..] {
-            let fits = Node::of(*entry).fits;
+            let fits = Node::from(*entry).fits;
             sheet
                 .push_state(self.plan.marks(fits), self.plan.is_prefix(fits))
                 .map_err(|_| DrawError::NoMemory)?;

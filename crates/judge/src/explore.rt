@@ -26,6 +26,7 @@ impl Table<'_> {
         ensures answer { After self.new.letters (M.Machine.meaning machine.now) (words_in self.new) self.new.size row letter result }
         ensures same { Same self.old self.new }
     {
+        // Five ways on, each a decision: no conversion of an error.
         match machine.step(self.node(row), letter) {
             Err(Wrong) => Err(Stop::Faulty(row, letter)),
             Ok(None) => Ok(()),

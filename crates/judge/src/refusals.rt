@@ -58,6 +58,7 @@ impl DrawRefusal {
 /// Why no sheet was drawn: it was refused, or memory for its states was wanting, which says nothing about the plan.
 pub type DrawError = Unmade<DrawRefusal>;
 
+// By hand: a derived one has no contract, and clauses name what this gives.
 impl From<DrawRefusal> for DrawError {
     ghost from_gives = { λ e r. r ≡ RefusedFor e };
 

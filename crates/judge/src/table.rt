@@ -5,7 +5,6 @@ ghost use Rattle.std.specs.Prelude.{◌≡◌, ℕ, ◌+◌, ◌*◌, ◌^◌, �
 ghost use Rattle.exploration.specs.Links.{node_at, written};
 ghost use Rattle.judge.specs.Memory.{groups_in};
 ghost use Rattle.judge.specs.Moves.{node_of};
-ghost use Rattle.judge.specs.Tables.{words_in, node_in, Same, Finds};
 
 use crate::machine::Node;
 
@@ -19,13 +18,16 @@ pub(crate) struct Table<'a> {
     pub(crate) entries: &'a mut [[u64; GROUP]],
     pub(crate) letters: u8,
     pub(crate) size: usize,
+    ghost room: { size ≤ length entries.now },
 }
 
-impl Node {
-    /// The node of an entry.
-    pub(crate) fn of(entry: [u64; GROUP]) -> Node
-        ensures answer { node_of result ≡ node_in entry }
-    {
+// The node of an entry.
+impl From<[u64; GROUP]> for Node {
+    ghost use Rattle.judge.specs.Tables.{node_in};
+
+    ghost from_gives = { λ entry node. node_of node ≡ node_in entry };
+
+    fn from(entry: [u64; GROUP]) -> Node {
         let [_, state, closing, inner] = entry;
         Node {
             state,
@@ -35,6 +37,8 @@ impl Node {
 }
 
 impl<'a> Table<'a> {
+    ghost use Rattle.judge.specs.Tables.{words_in, Same, Finds};
+
     /// The table over the whole groups of the words; none is in use.
     pub(crate) fn over(cells: &'a mut [u64], letters: u8) -> Table<'a>
         ensures groups { length result.entries.now ≡ groups_in cells.old }
@@ -51,7 +55,6 @@ impl<'a> Table<'a> {
 
     /// The entries in use.
     pub(crate) fn used(&self) -> &[[u64; GROUP]]
-        requires room { self.now.size ≤ length self.now.entries.now }
         ensures answer { result.now ≡ take self.now.size self.now.entries.now }
     {
         &self.entries[..self.size]
@@ -62,17 +65,16 @@ impl<'a> Table<'a> {
         requires entry { row < length self.now.entries.now }
         ensures answer { node_of result ≡ node_at (words_in self.now) row }
     {
-        Node::of(self.entries[row])
+        Node::from(self.entries[row])
     }
 
     /// The entry that has the node, if there is one.
     pub(crate) fn find(&self, node: Node) -> Option<usize>
-        requires room { self.now.size ≤ length self.now.entries.now }
         ensures answer { Finds (words_in self.now) self.now.size (node_of node) result }
     {
         self.used()
             .iter()
-            .position(|entry| Node::of(*entry) == node)
+            .position(|entry| Node::from(*entry) == node)
     }
 
     /// Adds an entry of the node, found from the entry `parent` by the letter.

@@ -23,7 +23,7 @@ pub(crate) type Block = [u8; BLOCK_BYTES];
 /// What is found of a block: it is sound and has so many records, or all of it is damaged.
 pub type Verdict = Result<u8, Cause>;
 
-// How many cells a block shows, of which this was found.
+// How many cells a block shows, if this was found of it.
 pub(crate) fn cells_of(verdict: Verdict) -> usize
     ensures answer { result ≡ cells_of verdict }
     ensures bound { result < 256 }

@@ -23,7 +23,7 @@ pub const MOST_BLOCKS: usize = 128;
 #[derive(Clone, Copy, Drop, Debug)]
 pub struct EventLog<'a> {
     bytes: &'a [u8],
-    // What was found of each block of the bytes; past the last block it says nothing. An array, as opening cannot fail for want of memory.
+    // What was found of each block of the bytes; past the last block it says nothing. An array, so that opening cannot fail for want of memory.
     verdicts: [Verdict; MOST_BLOCKS],
     cells: usize,
     // The bytes are whole blocks, and not too many; each block was judged; and the cells of all were counted.
@@ -32,7 +32,7 @@ pub struct EventLog<'a> {
     ghost counted: { cells ≡ cell_count (length bytes.now / 512) verdicts },
 }
 
-// The cells of all blocks, of which this was found: each block but the last gives 126.
+// How many cells all blocks show, if this was found of them: each but the last gives 126.
 fn count_cells(verdicts: &[Verdict]) -> usize
     requires { length verdicts.now ≤ 128 }
     ensures { result ≡ cell_count (length verdicts.now) verdicts.now }

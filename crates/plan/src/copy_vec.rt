@@ -3,8 +3,8 @@ ghost use Rattle.std.specs.Prelude.{◌≡◌, ◌+◌, ◌<◌, ◌≤◌, ◌=
 
 use std::alloc::AllocError;
 
-/// At most `N` items, one after the other, in the value itself. It is `Copy` where they are, as the library's `ArrayVec` is not,
-/// and so a plan is. No `==` is derived, which would compare the places behind the items too.
+/// At most `N` items, one after the other, in the value itself. It is `Copy` where its items are; the library's `ArrayVec` is not, and
+/// a plan has to be. No `==` is derived, which would compare the places behind the items too.
 #[derive(Debug)]
 pub(crate) struct CopyVec<T, const N: usize> {
     places: [T; N],
@@ -26,9 +26,11 @@ impl<T: Copy, const N: usize> Clone for CopyVec<T, N> {
 impl<T: Copy, const N: usize> Copy for CopyVec<T, N> {}
 
 impl<T: Copy, const N: usize> CopyVec<T, N> {
+    ghost use Rattle.plan.specs.Spans.{items};
+
     /// The vector without items. The places behind the items have the blank.
     pub(crate) fn new(blank: T) -> CopyVec<T, N>
-        ensures { take result.count result.places ≡ [] }
+        ensures { items result ≡ [] }
     {
         CopyVec {
             places: [blank; N],
@@ -38,7 +40,7 @@ impl<T: Copy, const N: usize> CopyVec<T, N> {
 
     /// How many items there are.
     pub(crate) fn len(&self) -> usize
-        ensures value { result ≡ length (take self.now.count self.now.places) }
+        ensures value { result ≡ length (items self.now) }
         ensures fits { result ≤ N }
     {
         self.count
@@ -46,35 +48,35 @@ impl<T: Copy, const N: usize> CopyVec<T, N> {
 
     /// Whether there is none.
     pub(crate) fn is_empty(&self) -> bool
-        ensures { result ≡ (length (take self.now.count self.now.places) == 0) }
+        ensures { result ≡ (length (items self.now) == 0) }
     {
         self.count == 0
     }
 
     /// The items.
     pub(crate) fn as_slice(&self) -> &[T]
-        ensures { result.now ≡ take self.now.count self.now.places }
+        ensures { result.now ≡ items self.now }
     {
         &self.places[..self.count]
     }
 
     /// One item more, behind the others.
     pub(crate) fn push(&mut self, item: T)
-        requires { length (take self.old.count self.old.places) < N }
-        ensures { take self.new.count self.new.places ≡ take self.old.count self.old.places ++ item ∷ [] }
+        requires { length (items self.old) < N }
+        ensures { items self.new ≡ items self.old ++ item ∷ [] }
     {
         self.places[self.count] = item;
         self.count += 1;
     }
 
     /// These items more, behind the others.
-    pub(crate) fn extend(&mut self, items: &[T])
-        requires { length (take self.old.count self.old.places) + length items.now ≤ N }
-        ensures { take self.new.count self.new.places ≡ take self.old.count self.old.places ++ items.now }
+    pub(crate) fn extend(&mut self, more: &[T])
+        requires { length (items self.old) + length more.now ≤ N }
+        ensures { items self.new ≡ items self.old ++ more.now }
     {
         let from = self.count;
         let places = &mut self.places[..];
-        places[from..from + items.len()].copy_from_slice(items);
-        self.count = from + items.len();
+        places[from..from + more.len()].copy_from_slice(more);
+        self.count = from + more.len();
     }
 }

@@ -1,5 +1,6 @@
 //! The fits of a text: the steps from which on its pattern spells it to the end (closing), and those from which on it is
-//! spelt with a step left over (inner). Both are found for all steps at once, letter by letter.
+//! spelt with a step left over (inner). Both are found for all steps at once, letter by letter. Wherever fits go they are the
+//! pair of these two sets of 64 bits.
 ghost use Rattle.std.specs.Prelude.{◌≡◌, ℕ, ◌<◌, ◌≤◌, true, ◌↔◌, List, [], ◌∷◌, length};
 ghost use Rattle.pattern.specs.Patterns.{marks_of, shortest as shortest_of, longest as longest_of};
 ghost use Rattle.pattern.specs.Images.{FrontOf};

@@ -5,7 +5,7 @@ ghost use Rattle.std.specs.Prelude.{◌<◌};
 #[derive(Clone, Copy, Debug)]
 pub(crate) struct Span {
     pub(crate) first: u8,
-    /// No code asks for it: it says what the pattern is.
+    /// Only definitions ask for it: it says where the pattern ends.
     pub(crate) length: u8,
     ghost low: { first < 64 },
 }

@@ -7,6 +7,7 @@ use crate::alphabet::Alphabet;
 use notation::{LineFault, Sign};
 
 /// A text over an alphabet that is read from its front: the rest of it is left.
+// The alphabet lies beside the text so that no method is handed both; that it stays the same is a clause of each.
 #[derive(Drop)]
 pub(crate) struct Scanner<'a> {
     pub(crate) alphabet: Alphabet,

@@ -15,7 +15,7 @@ pub enum Call {
         memory: Vec<u64>,
     },
     /// Admit the plan and the sheet, judged in this working memory, with a buffer for a wrong word.
-    // A call names its parts itself: a struct of the four would be made for this call alone, and taken apart at once.
+    // A call names its parts itself: its answer gives back the buffers alone, so a struct of the four would be taken apart there.
     Admit {
         plan: Plan,
         sheet: Sheet,

@@ -25,7 +25,7 @@ impl From<JudgeRefusal> for AdmitRefusal {
 
 impl AdmitRefusal {
     /// The number of the refusal.
-    // The questions about a sheet have numbers of their own, so these are no discriminants.
+    // `Sheet` holds another refusal, and an enum with a value in a variant is not cast.
     pub fn number(self) -> u8
         ensures answer { result ≡ number_of self }
     {

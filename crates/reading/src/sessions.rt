@@ -89,7 +89,8 @@ impl<T: Trace> Session<T> {
         }
     }
 
-    // Asks a search for the next hit.
+    // Asks a search for the next hit. (What it answers outside a search is short enough to stand in each of these three: a helper would
+    // be handed the rest as a closure, with clauses longer than it spares.)
     fn next(self) -> (Session<T>, Answer<T::Damage>)
         ensures { Made T.Trace.alphabet T.Trace.row self Next result }
     {

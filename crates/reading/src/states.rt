@@ -30,7 +30,7 @@ pub struct Reading<T> {
 }
 
 /// A reading in which a search is begun.
-// What ties it to its trace's row (`Stands`) is in contracts: a field that says it would ask for `T: Trace` wherever the type is named.
+// What ties it to its trace's row (`Stands`) is in contracts: a ghost field for it would ask for `T: Trace` wherever the type is named.
 #[derive(Drop)]
 pub struct Search<T> {
     /// The reading that is searched.

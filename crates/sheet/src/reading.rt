@@ -33,6 +33,7 @@ fn arrows_of(bytes: &[u8]) -> [Option<StateNumber>; MOST_LETTERS]
     ensures bare { (a : ℕ) → length bytes.now ≤ a → slice_index_or result a None ≡ None }
 {
     let mut arrows = [None; MOST_LETTERS];
+    // By number: after `iter_mut` under `zip` a proof knows how many arrows there are, and no longer which.
     for (a, byte) in bytes.iter().enumerate() {
         arrows[a] = arrow_in(*byte);
     }

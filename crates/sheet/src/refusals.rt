@@ -33,7 +33,7 @@ impl SheetRefusal {
     }
 }
 
-/// Why a value was not made: it was refused, with the refusal, or memory was wanting, which says nothing about it.
+/// Why a value was not made: it was refused, for this reason, or memory was wanting, which says nothing about it.
 #[derive(Clone, Copy, Debug, PartialEq, Eq)]
 pub enum Unmade<R> {
     /// It was refused.
@@ -42,6 +42,7 @@ pub enum Unmade<R> {
     NoMemory,
 }
 
+// By hand: a derived one has no contract, and clauses name what this gives.
 impl<R> From<AllocError> for Unmade<R> {
     ghost from_gives = { λ _ r. r ≡ NoMemory };
 
@@ -53,6 +54,7 @@ impl<R> From<AllocError> for Unmade<R> {
 /// Why no sheet was made.
 pub type SheetError = Unmade<SheetRefusal>;
 
+// By hand: a derived one has no contract, and clauses name what this gives.
 impl From<SheetRefusal> for SheetError {
     ghost from_gives = { λ e r. r ≡ RefusedFor e };
 
@@ -71,6 +73,7 @@ pub enum GrowthError {
     NoMemory,
 }
 
+// By hand: a derived one has no contract, and clauses name what this gives.
 impl<T: Drop> From<AllocFailed<T>> for GrowthError {
     ghost from_gives = { λ _ r. r ≡ NoRoom };
 

@@ -13,6 +13,7 @@ pub const MOST_STATES: usize = 255;
 pub const MOST_LETTERS: usize = 32;
 
 /// A state of the automaton. It has room for an arrow by every letter of the largest alphabet, so that following one takes one look.
+// A `Vec` of arrows in each state would be one more allocation that can fail.
 #[derive(Clone, Copy, Debug, PartialEq, Eq)]
 pub(crate) struct State {
     /// Bit j is set where the words that lead here are images of pattern j.

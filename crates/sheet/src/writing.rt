@@ -17,12 +17,13 @@ fn byte_of(arrow: Option<StateNumber>) -> u8
     arrow.map_or(0, |q| q as u8)
 }
 
-/// Writes the first arrows over the bytes, as many as there are.
+/// Writes the first arrows over the bytes, as many as there are. (Each fits a byte where the states of a sheet do, which its type says.)
 fn put_arrows(bytes: &mut [u8], arrows: &[Option<StateNumber>])
     requires wide { length bytes.old ≤ length arrows.now }
     requires small { (a : ℕ) → arrow_number (slice_index_or arrows.now a None) < 256 }
     ensures after { bytes.new ≡ take (length bytes.old) (map arrow_number arrows.now) }
 {
+    // By number, as a proof knows nothing of bytes that were written under `zip`.
     for (a, byte) in bytes.iter_mut().enumerate() {
         *byte = byte_of(arrows[a]);
     }

@@ -37,6 +37,7 @@ impl<T: Trace> Trace for Reversal<T> {
         if i >= n {
             return Err(Fault::NoSuchCell);
         }
+        // A fault goes up by `?`, as through every layer.
         let letter = self.below.cell(n - 1 - i)?;
         Ok(letter)
     }

@@ -38,6 +38,7 @@ impl<T: Trace> Trace for Window<T> {
         if i >= self.len() {
             return Err(Fault::NoSuchCell);
         }
+        // A fault goes up by `?`, as through every layer.
         let letter = self.below.cell(self.from + i)?;
         Ok(letter)
     }

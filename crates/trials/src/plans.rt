@@ -4,7 +4,7 @@ use plan::Plan;
 use std::alloc::{AllocError, Global};
 use std::test::Fail;
 
-/// The number of the refusal and its line (0 where it names none), or (0, 0) for a plan.
+/// The number of the refusal and its line (0 where it names none), or (0, 0) for a plan, as the tables of cases write it.
 fn refused(answer: Result<Plan, PlanRefusal>) -> (u8, usize) {
     answer.err().map_or((0, 0), |refusal| {
         (refusal.number(), refusal.line().unwrap_or(0))

@@ -40,7 +40,7 @@ fn byte(bytes: &[u8], i: usize) -> u8 {
     bytes.get(i).copied().unwrap_or(0)
 }
 
-/// The number of the refusal, 0 for a sheet.
+/// The number of the refusal, or 0 for a sheet, as the tables of cases write it.
 fn number(made: Result<Sheet, SheetError>) -> u8 {
     match made {
         Ok(_) => 0,

@@ -12,7 +12,7 @@ use trace::interface::Trace;
 impl<T: Trace> Reading<T> {
     /// Puts the plan and the sheet in place of those that the reading holds, if the sheet has no wrong word for the plan and the
     /// memory suffices to tell; a refused sheet is used up. The memory is left all zeros.
-    // It is lent, and the word's buffer too, so that admitting allocates nothing.
+    // The memory and the word's buffer are lent, so that admitting allocates nothing.
     pub fn admit(
         &mut self,
         plan: Plan,

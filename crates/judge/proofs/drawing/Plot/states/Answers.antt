@@ -11,9 +11,6 @@ use Rattle.judge.proofs.Entries.{room, some}
 use Rattle.judge.proofs.Plotting.{bare_more}
 use Rattle.judge.proofs.drawing.Plot.states.Goals as goal
 
-pub used-requires : goal.used-requires
-used-requires c = record { room = room c.args.self.now c.requires.complete }
-
 pub slice_bounds-entry-items-count : goal.slice_bounds-entry-items-count
 slice_bounds-entry-items-count c =
     let table = c.args.self.now.table.now in
@@ -33,7 +30,7 @@ loop-entry-preserved c =
     let e : c.push_state.result ≡ Ok c.in_ok-map_err.field-0 = search rules in
     let s = rw e at c.push_state.ensures.answer in
     let n = other_node table.entries.now c.used.result.now table.size c.used.ensures.answer (room c.args.self.now c.requires.complete) c.loop-entry.entry-index c.loop-entry-test.true in
-    let f : c.of.result.fits ≡ fits_at w k = ap (λ (n : Node). (n.1, n.2)) (c.of.ensures.answer ∙ n) in
+    let f : c.from.result.fits ≡ fits_at w k = ap (λ (n : Node). (n.1, n.2)) (c.from.ensures ∙ n) in
     bare_more plan w k (table_of c.loop-entry.sheet) (table_of c.push_state.new.self) c.marks.result c.is_prefix.result (omega arith) c.loop-entry.invariant
     (c.marks.ensures.answer ∙ ap (fitting (patterns_of plan)).marks f) (c.is_prefix.ensures.answer ∙ ap (fitting (patterns_of plan)).prefix f) s.2
 

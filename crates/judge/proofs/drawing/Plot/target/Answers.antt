@@ -13,9 +13,6 @@ use Rattle.judge.proofs.drawing.Plot.target.Goals as goal
 pub node-requires : goal.node-requires
 node-requires c = record { entry = omega (arith, room c.args.self.now c.requires.complete) }
 
-pub find-requires : goal.find-requires
-find-requires c = record { room = room c.args.self.now c.requires.complete }
-
 pub returns-in-Ok-Some-clause-answer : goal.returns-in-Ok-Some-clause-answer
 returns-in-Ok-Some-clause-answer c =
     let plan = c.args.self.now.plan.now in

@@ -12,6 +12,6 @@ returns c =
     let n = node_of c.args.node in
     record {
       answer =
-          finds es c.args.self.now.size n c.position.result c.requires.room
+          finds es c.args.self.now.size n c.position.result c.args.self.now.room
           (IsFirst-from_position _ _ _ (λ e. node_in e ≡ n) (λ e. node_in e ≡ n → ⊥) c.position.ensures.ran (YieldsList-from_slice (take c.args.self.now.size es) cc) (λ x q k. search (rules, tests)) (λ x q k. search (rules, tests)));
     }

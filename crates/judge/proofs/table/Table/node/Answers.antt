@@ -4,4 +4,4 @@ use Rattle.judge.proofs.Groups.{node_is}
 use Rattle.judge.proofs.table.Table.node.Goals as goal
 
 pub returns : goal.returns
-returns c = record { answer = c.of.ensures.answer ∙ sym (node_is c.args.self.now.entries.now c.args.row) }
+returns c = record { answer = c.from.ensures ∙ sym (node_is c.args.self.now.entries.now c.args.row) }

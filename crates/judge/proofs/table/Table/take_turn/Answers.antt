@@ -10,9 +10,6 @@ use Rattle.judge.proofs.table.Table.take_turn.Goals as goal
 pub node-requires : goal.node-requires
 node-requires g c = record { entry = omega (arith, room c.args.self.now.entries.now c.requires.sound) }
 
-pub find-requires : goal.find-requires
-find-requires g c = record { room = room c.args.self.now.entries.now c.requires.sound }
-
 pub push-requires-clause-room : goal.push-requires-clause-room
 push-requires-clause-room g c = omega (arith, room c.args.self.now.entries.now c.requires.sound)
 
