@@ -14,6 +14,7 @@ fn column(pattern: &[u32], letter: usize) -> u64
     requires short { length pattern.now ≤ 64 }
     ensures { result ≡ steps_where (admits_first letter) (pattern.now ∷ []) }
 {
+    // `Plan::marks` folds bits so too, over other items: one function for both would take the bit as a closure, and say less plainly what it is.
     pattern.iter().rev().fold(
         0,
         |column, step| (column << 1) | ((*step >> letter) & 1) as u64,

@@ -70,7 +70,8 @@ impl Head {
         part[4] <= 1 && up_to(self.states, &part[BEFORE_ARROWS..])
     }
 
-    /// Whether all states of the body are sound.
+    /// Whether all states of the body are sound. (Its length is asked of the caller, who has just measured it; a type for that would live
+    /// between two calls.)
     fn are_sound(self, body: &[u8]) -> bool
         requires { length body.now ≡ self.states * entry_size self.letters }
         ensures answer { result ≡ sound_parts self.states (cut (entry_size self.letters) self.states body.now) }
@@ -86,6 +87,7 @@ impl Head {
         ensures answer { entry_in self.letters result ≡ entry_of part.now }
         ensures good { Good self.letters self.states result }
     {
+        // The bytes of the format by their places: an array pattern would need an arm for a part that is too short.
         let (front, arrows) = part.split_at(BEFORE_ARROWS);
         State {
             marks: u32::from_be_bytes([front[0], front[1], front[2], front[3]]),
