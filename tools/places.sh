@@ -1,5 +1,6 @@
 #!/bin/bash
-# Lists the places that docs/DESIGN-PASS.md counts, point by point; `tools/places.sh N` lists those of point N.
+# Lists the places that docs/DESIGN-PASS.md counts, point by point; `tools/places.sh N` lists those of point N, and `tools/places.sh again`
+# looks for them in another way.
 cd "$(dirname "$0")/.." || exit 1
 src=$(find crates/*/src -name '*.rt' | sort)
 
@@ -65,6 +66,32 @@ point8() {
     done
 }
 
+again() {
+    listed() {
+        echo "# $1: $(wc -l < /tmp/places.$$)"
+        cat /tmp/places.$$
+        rm -f /tmp/places.$$
+    }
+    grep -nE '^ *(Ok|Err|Some|None)\b.*=> *\{? *(return )?(Ok|Err|Some|None)\b' $src > /tmp/places.$$
+    listed 'arms that turn a Result or an Option into one'
+    grep -nE 'let (Ok|Err|Some).* else' $src > /tmp/places.$$
+    listed 'let .. else of a Result or an Option'
+    grep -nE '\b[a-z_]+ [+-]= 1;' $src > /tmp/places.$$
+    listed 'counters raised by hand'
+    grep -nE '\.enumerate\(\)' $src > /tmp/places.$$
+    listed 'loops with a number beside the item'
+    grep -nE '[a-z_]\[[^];]*\b(i|k|w|j|a|row|place|letter)\b[^];]*\]' $src > /tmp/places.$$
+    listed 'an index by a number of a loop'
+    grep -nE '[a-z_]\[[^];]*[-+*/] ?[^];]*\]' $src | grep -vE ': *//' > /tmp/places.$$
+    listed 'arithmetic in an index'
+    grep -nE '^ *requires' $src > /tmp/places.$$
+    listed 'clauses that ask something of a caller'
+}
+
+if [ "${1:-}" = again ]; then
+    again
+    exit
+fi
 for n in ${1:-1 2 3 4 5 6 7 8}; do
     echo "## point $n"
     point$n
