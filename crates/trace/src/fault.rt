@@ -18,7 +18,7 @@ pub enum Origin<D> {
 
 impl<D> Fault<D> {
     /// The same fault, its damage told anew by `tell`.
-    pub fn map<E, F: FnOnce(D) -> E>(self, tell: F) -> Fault<E>
+    pub(crate) fn map<E, F: FnOnce(D) -> E>(self, tell: F) -> Fault<E>
         requires { ForDamage self (F.pre tell) }
         ensures { Retold (F.post tell) self result }
     {

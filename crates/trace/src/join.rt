@@ -1,6 +1,8 @@
 //! A layer that shows two logs of one kind, one after the other.
-ghost use Rattle.trace.specs.Layers.{join};
+ghost use Rattle.std.specs.Prelude.{◌≡◌};
+ghost use Rattle.trace.specs.Layers.{join, refault};
 ghost use Rattle.trace.specs.Rows.{lawful_join};
+ghost use Rattle.trace.specs.declared.fault.Origin.TheVariants.{First};
 
 use crate::fault::{Fault, Origin};
 use crate::interface::{MOST_CELLS, Trace};
@@ -41,11 +43,22 @@ impl<T: Trace> Trace for Join<T> {
         }
         let n = self.first.len();
         if i < n {
-            self.first.cell(i).map_err(|fault| fault.map(Origin::First))
+            let letter = self.first.cell(i)?;
+            Ok(letter)
         } else {
             self.second
                 .cell(i - n)
                 .map_err(|fault| fault.map(Origin::Second))
         }
+    }
+}
+
+// A fault of the first log, as the join tells it: by this a `?` carries it up. Two types have one `From`, so a fault of the second is
+// mapped where it comes.
+impl<D> From<Fault<D>> for Fault<Origin<D>> {
+    ghost from_gives = { λ x y. y ≡ refault First x };
+
+    fn from(value: Fault<D>) -> Fault<Origin<D>> {
+        value.map(Origin::First)
     }
 }
