@@ -7,3 +7,4 @@ pub mod Admission
 pub mod Histories
 pub mod Promise
 pub mod Sessions
+pub mod Texts

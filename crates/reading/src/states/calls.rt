@@ -21,7 +21,7 @@ impl<T: Trace + Drop> Reading<T> {
     {
         let letters = trace.letters();
         let plan = Plan::empty(letters).unwrap();
-        // A sheet's error is more than want of memory, so no `From` turns it into that: here the rest of it is proved not to come.
+        // A `map_err` would pass a refusal off as want of memory; by the `match` the check proves that none comes.
         match Sheet::single(heap, letters, 0) {
             Ok(sheet) => Ok(Reading { trace, plan, sheet }),
             Err(SheetError::NoMemory) => Err(AllocError),
