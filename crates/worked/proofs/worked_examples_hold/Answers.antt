@@ -1,0 +1,6 @@
+-- `worked_examples_hold`: the theorem of proofs/Examples.
+use Rattle.worked.proofs.Examples.{worked_examples}
+use Rattle.worked.proofs.worked_examples_hold.Goals as goal
+
+pub returns : goal.returns
+returns c = worked_examples
