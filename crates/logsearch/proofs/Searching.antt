@@ -19,6 +19,8 @@ use Rattle.reading.specs.declared.sessions.Session.TheVariants.{Idle, Searching}
 use Rattle.reading.specs.Cells.{letters_in}
 use Rattle.reading.specs.Hits.{place_of, placed, hits_in}
 use Rattle.reading.specs.Histories.{History, Order, Buffer, begun, admitted, searched, answers, Of, Kept, DueInTurn, DueIf}
+use Rattle.reading.specs.Promise.{Promise, AfterEach}
+use Rattle.reading.proofs.Promising.{promised}
 use Rattle.reading.specs.Sessions.{trace_of, Runs, Agrees, Promised}
 use Rattle.logsearch.specs.Searches.{left}
 
@@ -32,31 +34,33 @@ in_turn K row false h c a e d = absurd (clash (sym e))
 module _ {T D : Type 0} (K : ℕ) (row : T → List (Result ℕ D)) where
   -- some history that keeps the law has led to the session
   abbrev pub Came : Session T → Bool → Type 0
-  Came s b = (h : History D) × Agrees K (row (trace_of s)) h s × Kept K (row (trace_of s)) h × (begun h ≡ b)
+  Came s b = (h : History D) × Agrees K (row (trace_of s)) h s × Kept K (row (trace_of s)) h × AfterEach (Promise K (row (trace_of s))) h × (begun h ≡ b)
 
   pub fresh : (s : Session T) (trace : T) → trace_of s ≡ trace → Agrees K (row trace) [] s → Came s false
-  fresh s trace e a = ([], subst (λ (t : T). Agrees K (row t) [] s) (sym e) a, tt, refl)
+  fresh s trace e a = ([], subst (λ (t : T). Agrees K (row t) [] s) (sym e) a, tt, promised K (row (trace_of s)) [] tt, refl)
 
   came : (s s' : Session T) (h : History D) (b : Bool) → trace_of s' ≡ trace_of s → Agrees K (row (trace_of s)) h s' → Kept K (row (trace_of s)) h → begun h ≡ b → Came s' b
-  came s s' h b e a k is = (h, subst (λ (t : T). Agrees K (row t) h s') (sym e) a, subst (λ (t : T). Kept K (row t) h) (sym e) k, is)
+  came s s' h b e a k is =
+      let k' = subst (λ (t : T). Kept K (row t) h) (sym e) k in
+      (h, subst (λ (t : T). Agrees K (row t) h s') (sym e) a, k', promised K (row (trace_of s')) h k', is)
 
   pub drew : (s s' : Session T) (plan : Plan) (m : Buffer) (a : Answer D) → Came s false → trace_of s' ≡ trace_of s → Promised K (row (trace_of s)) s (Draw plan m) a s' → Came s' false × DueInTurn K (row (trace_of s)) [] (Draw plan m) a
-  drew s s' plan m a (h, ag, k, is) e p =
+  drew s s' plan m a (h, ag, k, held, is) e p =
       let d = (p h ag).0 in
       (came s s' ((Draw plan m, a) ∷ h) false e (p h ag).1 ((p h ag).0, k) (ap (λ (x : Answer D). begun ((Draw plan m, x) ∷ h)) d.is ∙ is), record { held = d.held; is = d.is; due = d.due })
 
   pub asked : (s s' : Session T) (plan : Plan) (sheet : Sheet) (m w : Buffer) (a : Answer D) → Came s false → trace_of s' ≡ trace_of s → Promised K (row (trace_of s)) s (Admit plan sheet m w) a s' → Came s' false × DueInTurn K (row (trace_of s)) [] (Admit plan sheet m w) a
-  asked s s' plan sheet m w a (h, ag, k, is) e p =
+  asked s s' plan sheet m w a (h, ag, k, held, is) e p =
       let d = in_turn K (row (trace_of s)) _ h (Admit plan sheet m w) a (ap not is) (p h ag).0 in
       (came s s' ((Admit plan sheet m w, a) ∷ h) false e (p h ag).1 ((p h ag).0, k) (ap (λ (x : Answer D). begun ((Admit plan sheet m w, x) ∷ h)) d.is ∙ is), record { held = d.held; is = d.is; due = d.due })
 
   pub opened : (s s' : Session T) (b : Bool) (a : Answer D) → Came s b → trace_of s' ≡ trace_of s → Promised K (row (trace_of s)) s Begin a s' → Came s' true
-  opened s s' b a (h, ag, k, is) e p =
+  opened s s' b a (h, ag, k, held, is) e p =
       came s s' ((Begin, a) ∷ h) true e (p h ag).1 ((p h ag).0, k) (ap (λ (x : Answer D). begun ((Begin, x) ∷ h)) (p h ag).0)
 
   -- what next answers, and that the search is still begun
   pub answered : (s s' : Session T) (a : Answer D) → Came s true → trace_of s' ≡ trace_of s → Promised K (row (trace_of s)) s Next a s' → Came s' true × Of Found (λ (x : Option Hit). Unit {0}) a
-  answered s s' a (h, ag, k, is) e p =
+  answered s s' a (h, ag, k, held, is) e p =
       let d = in_turn K (row (trace_of s)) _ h Next a is (p h ag).0 in
       (came s s' ((Next, a) ∷ h) true e (p h ag).1 ((p h ag).0, k) (ap (λ (x : Answer D). begun ((Next, x) ∷ h)) d.is ∙ is), record { held = d.held; is = d.is; due = tt })
 
@@ -95,5 +99,5 @@ module _ {T D : Type 0} (K : ℕ) (row : List (Result ℕ D)) where
       after h q' a hit is f ag = subst (λ (b : Bool). Runs K row b (admitted K h) (searched K h) (placed (Some hit) ∷ answers h) q') is (subst (λ (y : Answer D). Agrees K row ((Next, y) ∷ h) (Searching q')) f ag)
 
 pub one_less : {T D : Type 0} (K : ℕ) (row : T → List (Result ℕ D)) (s s' : Session T) (a : Answer D) (hit : Hit) → Came K row s true → trace_of s' ≡ trace_of s → Promised K (row (trace_of s)) s Next a s' → a ≡ Found (Some hit) → left (row (trace_of s')) s' < left (row (trace_of s)) s
-one_less {T} {D} K row s s' a hit (h, ag, k, is) e p f =
+one_less {T} {D} K row s s' a hit (h, ag, k, held, is) e p f =
     subst (λ (t : List (Result ℕ D)). left t s' < left (row (trace_of s)) s) (ap row (sym e)) (nearer K (row (trace_of s)) h s s' a hit ag is p f)

@@ -79,3 +79,88 @@ fn a_list_of_calls(rt: HostRuntime) -> Result<(), Fail> {
     assert!(rt; hits.as_slice() == [FIRST, SECOND].as_slice());
     Ok(())
 }
+
+// The same, with a memory that has no group of four words, so that it is refused.
+fn refused_admission(heap: Global) -> Result<Call, Fail> {
+    let (plan, sheet, _) = drawn(heap, 0)?;
+    Ok(Call::Admit {
+        plan,
+        sheet,
+        memory: vec![in heap; 0; 3]?,
+        word: vec![in heap; 0; WORD_BYTES]?,
+    })
+}
+
+fn kind(answer: &Answer<SignDamage>) -> &'static str {
+    match answer {
+        Answer::Drawn { .. } => "drawn",
+        Answer::Judged {
+            verdict: Ok(()),
+            ..
+        } => "accepted",
+        Answer::Judged { .. } => "refused",
+        Answer::Cell(_) => "cell",
+        Answer::Begun => "begun",
+        Answer::Found(Some(_)) => "hit",
+        Answer::Found(None) => "end",
+        Answer::Told(_) => "told",
+        Answer::Closed => "closed",
+        Answer::OutOfTurn(_) => "out of turn",
+    }
+}
+
+#[test]
+fn calls_out_of_turn_and_refused(rt: HostRuntime) -> Result<(), Fail> {
+    let heap = rt.alloc();
+    let calls: Vec<Call> = vec![in heap;
+        Call::Next,
+        Call::Report,
+        Call::Close,
+        Call::Begin,
+        Call::Next,
+        admission(heap)?,
+        Call::Close,
+        refused_admission(heap)?,
+        Call::Begin,
+        Call::Next,
+        Call::Close,
+        admission(heap)?,
+        Call::Inspect(0),
+        Call::Begin,
+        Call::Next,
+        Call::Begin,
+        Call::Next,
+        Call::Next,
+        Call::Next,
+        Call::Report,
+    ]?;
+    // The plan without patterns has no hit; a begin inside a search starts anew.
+    let kinds: &[&str] = &[
+        "out of turn",
+        "out of turn",
+        "out of turn",
+        "begun",
+        "end",
+        "out of turn",
+        "closed",
+        "refused",
+        "begun",
+        "end",
+        "closed",
+        "accepted",
+        "cell",
+        "begun",
+        "hit",
+        "begun",
+        "hit",
+        "hit",
+        "end",
+        "told",
+    ];
+    let answers = perform(heap, SignLog::open(b"XABABA")?, calls)?;
+    assert_eq!(rt; answers.len(), kinds.len());
+    for (answer, wanted) in answers.iter().zip(kinds) {
+        assert_eq!(rt; kind(answer), *wanted);
+    }
+    Ok(())
+}
