@@ -24,12 +24,9 @@ use Rattle.reading.proofs.Promising.{promised}
 use Rattle.reading.specs.Sessions.{trace_of, Runs, Agrees, Promised}
 use Rattle.logsearch.specs.Searches.{left}
 
-clash : true ≡ false → ⊥
-clash e = let z : ◌≡◌ {A = ℕ} 0 1 = cc in omega arith
-
 in_turn : {D : Type 0} (K : ℕ) (row : List (Result ℕ D)) (b : Bool) (h : History D) (c : Call) (a : Answer D) → b ≡ true → DueIf b K row h c a → DueInTurn K row h c a
 in_turn K row true h c a e d = d
-in_turn K row false h c a e d = absurd (clash (sym e))
+in_turn K row false h c a e d = absurd cc
 
 module _ {T D : Type 0} (K : ℕ) (row : T → List (Result ℕ D)) where
   -- some history that keeps the law has led to the session
@@ -84,10 +81,10 @@ module _ {T D : Type 0} (K : ℕ) (row : List (Result ℕ D)) where
       omega (arith, is, is', r.stands.counted, r'.stands.counted, hits_more (answers h) hit, slice_get_within (full (images_of (searched K h).plan) (letters_in row)) (length (hits_in (answers h))) (place_of hit) (sym e))
 
   pub nearer : (h : History D) (s s' : Session T) (a : Answer D) (hit : Hit) → Agrees K row h s → begun h ≡ true → Promised K row s Next a s' → a ≡ Found (Some hit) → left row s' < left row s
-  nearer h (Idle r) s' a hit ag is p f = absurd (clash (sym is ∙ ag.shut))
+  nearer h (Idle r) s' a hit ag is p f = absurd (let z : true ≡ false = sym is ∙ ag.shut in cc)
   nearer h (Searching q) (Idle r') a hit ag is p f =
       let d = in_turn K row _ h Next a is (p h ag).0 in
-      absurd (clash (sym is ∙ ap (λ (x : Answer D). begun ((Next, x) ∷ h)) (sym d.is) ∙ (p h ag).1.shut))
+      absurd (let z : true ≡ false = sym is ∙ ap (λ (x : Answer D). begun ((Next, x) ∷ h)) (sym d.is) ∙ (p h ag).1.shut in cc)
   nearer h (Searching q) (Searching q') a hit ag is p f =
       let d = in_turn K row _ h Next a is (p h ag).0 in
       let x = found_some d.held (Some hit) a d.is f in

@@ -6,6 +6,7 @@ use reading::AdmitRefusal;
 use std::alloc::AllocError;
 
 /// Something was refused, by the question of this number, or memory was wanting.
+// `Unmade` says the same of one refusal; this is of all that the program can meet, and only a type of its own can have a `From` for each.
 #[derive(Clone, Copy, Drop, PartialEq, Eq, Debug)]
 pub(crate) enum Failure {
     Refused(u8),
