@@ -123,7 +123,7 @@ module _ (K : ℕ) (f : Fitting) (T : Table Node) (all : AllFound K (drawing f) 
       prefixed (suc k) z l = refl
 
 module _ (plan : Plan) {K : ℕ} {c : List ℕ} where
-  over : Overflows K (drawing (fitting (patterns_of plan))) c → K ≡ letters_of plan → groups_in c ≡ 255 → StatesSuffice plan → ⊥
+  pub over : Overflows K (drawing (fitting (patterns_of plan))) c → K ≡ letters_of plan → groups_in c ≡ 255 → StatesSuffice plan → ⊥
   over h e n =
       let o = subst (λ (k : ℕ). Overflows k (drawing (fitting (patterns_of plan))) c) e h in
       rw (← n) ((drawing_is_right_lem (letters_of plan) (patterns_of plan) (sound plan).well).overflow (groups_in c) o.text o.more)

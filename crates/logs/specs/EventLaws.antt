@@ -200,7 +200,7 @@ module _ (bytes : List ℕ) (verdicts : List Verdict) where
       omega arith
 
 module _ (bytes : List ℕ) (verdicts : List Verdict) (cells : ℕ) (judged : Judged bytes verdicts (length bytes / 512)) (counted : cells ≡ cell_count (length bytes / 512) verdicts) where
-  row_shown : event_row bytes ≡ list_from 0 cells (cell_of bytes verdicts)
+  pub row_shown : event_row bytes ≡ list_from 0 cells (cell_of bytes verdicts)
   row_shown = row_of bytes verdicts (length bytes / 512) refl judged ∙ ap (λ (n : ℕ). list_from 0 n (cell_of bytes verdicts)) (sym counted)
 
   pub length_events : length (event_row bytes) ≡ cells

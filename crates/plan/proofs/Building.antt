@@ -283,9 +283,9 @@ module _ (plan : Plan) (p : List ℕ) (from : ℕ) (steps : List ℕ) (spans : L
       let long : length (patterns_of plan) ≡ length (firsts_of (items plan.spans)) = length_plan plan ∙ sym (length_firsts (items plan.spans)) in
       rw (view, firsts_are, ← plan.tables.counted) (placed_more (patterns_of plan) p g.room.some room (firsts_of (items plan.spans)) long plan.tables.placed)
 
-  pub admits_new : (admit : List ℕ) → ((a : ℕ) → a < 32 → get_or admit a 0 ≡ bit_or (get_or plan.admit a 0) ((steps_where (admits_first a) (p ∷ []) * 2 ^ from) % 2 ^ 64)) → Admit plan' (letters_of plan) admit
+  pub admits_new : (admit : List ℕ) → ((a : ℕ) → a < letters_of plan → get_or admit a 0 ≡ bit_or (get_or plan.admit a 0) ((steps_where (admits_first a) (p ∷ []) * 2 ^ from) % 2 ^ 64)) → Admit plan' (letters_of plan) admit
   admits_new admit is a less =
-      is a (omega (arith, plan.alphabet.few))
+      is a less
       ∙ rw (g.behind, plan.tables.admits a less, ← plan.tables.counted) (where_more (patterns_of plan) p g.room.some room (admits_first a))
       ∙ ap (steps_where (admits_first a)) (sym view)
 

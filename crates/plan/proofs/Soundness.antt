@@ -36,7 +36,7 @@ none_in K a (s ∷ ss) l small =
     let rest : mask_l (map (admits_first a) (tails ss)) ≡ 0 = none_in K a ss l (λ i less. small (suc i) (omega arith)) in
     rw (not_in K s a (small zero (omega arith)) l, rest)
 
-admit_none : (K a : ℕ) (plan : List (List ℕ)) → K ≤ a → Within K plan → admit_of plan a ≡ 0
+pub admit_none : (K a : ℕ) (plan : List (List ℕ)) → K ≤ a → Within K plan → admit_of plan a ≡ 0
 unfolding steps_where rests
 admit_none K a [] l within = refl
 admit_none K a (p ∷ ps) l within =

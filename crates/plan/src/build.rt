@@ -14,20 +14,22 @@ fn column(pattern: &[u32], letter: usize) -> u64
     requires short { length pattern.now ≤ 64 }
     ensures { result ≡ steps_where (admits_first letter) (pattern.now ∷ []) }
 {
-    // `Plan::marks` folds bits so too, over other items: one function for both would take the bit as a closure, and say less plainly what it is.
+    // `Plan::marks` gathers bits too, over other items: one function for both would take the bit as a closure, and say less plainly what it is.
     pattern.iter().rev().fold(
         0,
         |column, step| (column << 1) | ((*step >> letter) & 1) as u64,
     )
 }
 
-/// The table with the pattern's steps too, which are numbered from `from` on.
-fn columns(mut admit: [u64; 32], from: usize, pattern: &[u32]) -> [u64; 32]
+/// The table with the pattern's steps too, which are numbered from `from` on. (Letters that the plan does not have are not asked for, so no
+/// time goes to them.)
+fn columns(mut admit: [u64; 32], alphabet: Alphabet, from: usize, pattern: &[u32]) -> [u64; 32]
     requires low { from < 64 }
     requires short { length pattern.now ≤ 64 }
-    ensures { (a : ℕ) → a < 32 → slice_index result a ≡ bit_or (slice_index admit a) ((steps_where (admits_first a) (pattern.now ∷ []) * 2 ^ from) % 2 ^ 64) }
+    ensures { (a : ℕ) → a < alphabet.letters → slice_index result a ≡ bit_or (slice_index admit a) ((steps_where (admits_first a) (pattern.now ∷ []) * 2 ^ from) % 2 ^ 64) }
 {
-    for (letter, steps) in admit.iter_mut().enumerate() {
+    let letters = usize::from(alphabet.letters());
+    for (letter, steps) in admit[..letters].iter_mut().enumerate() {
         *steps |= column(pattern, letter) << from;
     }
     admit
@@ -78,7 +80,7 @@ impl Plan {
                 size.min(self.shortest)
             },
             longest: size.max(self.longest),
-            admit: columns(self.admit, from, pattern),
+            admit: columns(self.admit, self.alphabet, from, pattern),
             starts: self.starts | 1 << from,
             ends: self.ends | 1 << (from + pattern.len() - 1),
         }

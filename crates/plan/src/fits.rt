@@ -86,10 +86,13 @@ impl Plan {
         ensures word { (t : List ℕ) → 0 < length t → fits ≡ fits_of (patterns_of self.now) t → result ≡ marks_of (patterns_of self.now) t }
     {
         let (closing, _) = fits;
-        self.spans.as_slice().iter().rev().fold(
-            0,
-            |marks, span| (marks << 1) | ((closing >> span.first) & 1) as u32,
-        )
+        let spans = self.spans.as_slice();
+        let mut marks: u32 = 0;
+        // By the number of a pattern, so that an edit can take it for the number of the pattern's first step.
+        for j in (0..spans.len()).rev() {
+            marks = (marks << 1) | ((closing >> spans[j].first) & 1) as u32;
+        }
+        marks
     }
 
     /// Whether a text with these fits is a proper prefix of an image.

@@ -14,7 +14,7 @@ module _ (size : ℕ) (positive : 0 < size) where
   abbrev left : ChunksExact ℕ → List (List ℕ)
   left s = cut size (length (chunks_exact_rest s) / size) (chunks_exact_rest s)
 
-  cut_first : (xs part rest : List ℕ) → xs ≡ part ++ rest → length part ≡ size → cut size (length xs / size) xs ≡ part ∷ cut size (length rest / size) rest
+  pub cut_first : (xs part rest : List ℕ) → xs ≡ part ++ rest → length part ≡ size → cut size (length xs / size) xs ≡ part ∷ cut size (length rest / size) rest
   unfolding cut
   cut_first xs part rest e l =
       let long : length xs ≡ size + length rest = ap length e ∙ length-append part rest ∙ ap (λ (n : ℕ). n + length rest) l in

@@ -6,25 +6,19 @@ use Rattle.std.proofs.lemmas.List.{get_or_past, get_or-take, length-take}
 use Rattle.std.proofs.lemmas.Bool.{cases_lt}
 use Rattle.sheet.specs.declared.Sheet.{Sheet}
 use Rattle.sheet.specs.declared.states.State.{State}
-use Rattle.sheet.specs.States.{arrow_number, absent, Good}
+use Rattle.sheet.specs.States.{absent, Good}
 use Rattle.sheet.specs.Tables.{Entry, blank, entry_at, arrow_of, arrow_from}
 use Rattle.sheet.specs.Views.{entry_in, table_of, state_at}
-use Rattle.sheet.proofs.Goods.{number_at, sheet_good}
+use Rattle.sheet.proofs.Goods.{sheet_good}
 
 -- the arrows by letters that are below the number of letters are all arrows
-front_arrow :
+pub front_arrow :
     (letters : ℕ) (arrows : List ℕ) (a : ℕ) → ((b : ℕ) → letters ≤ b → get_or arrows b 0 ≡ 0) → get_or (take letters arrows) a 0 ≡ get_or arrows a 0
 front_arrow letters arrows a bare =
     ⊎_elim
     (λ (h : a < letters). get_or-take letters arrows a 0 h)
     (λ (h : letters ≤ a). get_or_past (take letters arrows) a 0 (simp length-take (omega arith)) ∙ sym (bare a h))
     (cases_lt a letters)
-
--- an arrow that leads to a state is what its number says
-arrow_back : (n : ℕ) (o : Option ℕ) → ((q : ℕ) → o ≡ Some q → (1 ≤ q) × (q ≤ n)) → arrow_of (arrow_number o) ≡ o
-arrow_back n None h = refl
-arrow_back n (Some zero) h = absurd (let x = (h 0 refl).0 in omega arith)
-arrow_back n (Some (suc q)) h = refl
 
 module _ (sheet : Sheet) where
   pub entry_is : (q : ℕ) → entry_at (table_of sheet) q ≡ unwrap_or (option_map (entry_in sheet.letters) (state_at sheet q)) blank
@@ -45,13 +39,9 @@ module _ (sheet : Sheet) where
         ap (λ (x : Entry). arrow_of (get_or x.arrows a 0))
         (entry_is q ∙ ap (λ (o : Option State). unwrap_or (option_map (entry_in sheet.letters) o) blank) e)
 
-    pub arrow_there : (s : State) → state_at sheet q ≡ Some s → arrow_from (table_of sheet) q a ≡ get_or s.arrows a None
+    pub arrow_there : (s : State) → state_at sheet q ≡ Some s → arrow_from (table_of sheet) q a ≡ arrow_of (get_or s.arrows a 0)
     arrow_there s e =
         let g = good_at q s e in
-        let bare : (b : ℕ) → sheet.letters ≤ b → get_or (map arrow_number s.arrows) b 0 ≡ 0 =
-        λ b l. number_at s.arrows b ∙ ap arrow_number (g.bare b l)
-        in
         ap (λ (x : Entry). arrow_of (get_or x.arrows a 0))
         (entry_is q ∙ ap (λ (o : Option State). unwrap_or (option_map (entry_in sheet.letters) o) blank) e)
-        ∙ ap arrow_of (front_arrow sheet.letters (map arrow_number s.arrows) a bare ∙ number_at s.arrows a)
-        ∙ arrow_back (vec_len sheet.states) (get_or s.arrows a None) (g.inside a)
+        ∙ ap arrow_of (front_arrow sheet.letters s.arrows a g.bare)

@@ -1,13 +1,12 @@
 -- States that a sheet may hold: the four facts about each as one, and how they last as states are added and changed.
-use Rattle.std.proofs.Common.{◌≡◌, ℕ, zero, suc, ◌+◌, ◌^◌, ◌<◌, ◌≤◌, Bool, true, false, cond, List, [], ◌∷◌, ◌++◌, map, length, get_or, take, set, replicate, Some, None, Option, Ok, vec_items, vec_len, sym, refl, ap, ◌∙◌, subst, ⊎_elim, arith}
-use Rattle.std.proofs.lemmas.List.{length-take-le, get_or-replicate, get_or_default, get_or-map, get_or-set_same, get_or-set_other, length-set, length-map, map-set, get_or_past, take-replicate, map_push}
-use Rattle.std.proofs.Math.ListN.{get_or-map as get_or-map_with_default}
+use Rattle.std.proofs.Common.{◌≡◌, ℕ, zero, suc, ◌+◌, ◌^◌, ◌<◌, ◌≤◌, Bool, true, false, cond, List, [], ◌∷◌, ◌++◌, map, length, get_or, take, set, replicate, Ok, vec_items, vec_len, sym, refl, ap, ◌∙◌, subst, ⊎_elim, arith}
+use Rattle.std.proofs.lemmas.List.{length-take-le, get_or-replicate, get_or_default, get_or-map, get_or-set_same, get_or-set_other, length-set, map-set, get_or_past, take-replicate, map_push}
 use Rattle.std.proofs.lemmas.Bool.{cases_lt, cases_eq, le-leb}
 use Rattle.sheet.specs.declared.refusals.SheetRefusal.TheVariants.{Counts}
 use Rattle.sheet.specs.Files.{ask, is_counted}
 use Rattle.sheet.specs.declared.Sheet.{Sheet}
 use Rattle.sheet.specs.declared.states.State.{State}
-use Rattle.sheet.specs.States.{arrow_number, absent, Each, IsInside, Good}
+use Rattle.sheet.specs.States.{absent, Each, Good}
 use Rattle.sheet.specs.Tables.{Entry, Table, blank, plain, single, grown, pointed, redirected, LawfulEntry, Lawful}
 use Rattle.sheet.specs.Views.{entry_in, table_of}
 use Rattle.sheet.proofs.Places.{count_is}
@@ -33,37 +32,25 @@ module _ (P : State → Type 0) (none : P absent) where
   each_set (x ∷ xs) (suc i) y h p zero = h 0
   each_set (x ∷ xs) (suc i) y h p (suc k) = each_set xs i y (λ j. h (suc j)) p k
 
--- ---- arrows and their numbers
-
-pub number_at : (arrows : List (Option ℕ)) (a : ℕ) → get_or (map arrow_number arrows) a 0 ≡ arrow_number (get_or arrows a None)
-number_at arrows a = get_or-map_with_default arrow_number arrows a None
-
-pub number_most : (n : ℕ) (o : Option ℕ) → ((q : ℕ) → o ≡ Some q → (1 ≤ q) × (q ≤ n)) → arrow_number o ≤ n
-number_most n None h = omega arith
-number_most n (Some q) h = (h q refl).1
-
-pub number_inside : (n : ℕ) (s : State) → IsInside n s → (a : ℕ) → get_or (map arrow_number s.arrows) a 0 ≤ n
-number_inside n s h a = rw (number_at s.arrows a) (number_most n (get_or s.arrows a None) (h a))
-
 -- ---- states without arrows
 
-pub no_arrow : (a : ℕ) → ◌≡◌ {A = Option ℕ} (get_or (replicate 32 None) a None) None
+pub no_arrow : (a : ℕ) → ◌≡◌ {A = ℕ} (get_or (replicate 32 0) a 0) 0
 no_arrow a =
     ⊎_elim
-    (λ (h : a < 32). get_or-replicate 32 a None None h)
-    (λ (h : 32 ≤ a). get_or_past (replicate 32 None) a None h)
+    (λ (h : a < 32). get_or-replicate 32 a 0 0 h)
+    (λ (h : 32 ≤ a). get_or_past (replicate 32 0) a 0 h)
     (cases_lt a 32)
 
 module _ (letters states : ℕ) where
-  pub plain_good : (marks : ℕ) (prefix : Bool) → marks < 2 ^ 32 → Good letters states (record { marks = marks; prefix = prefix; arrows = replicate 32 None })
+  pub plain_good : (marks : ℕ) (prefix : Bool) → marks < 2 ^ 32 → Good letters states (record { marks = marks; prefix = prefix; arrows = replicate 32 0 })
   plain_good marks prefix h =
-      record { marks = h; wide = refl; inside = λ a q e. absurd (let n = no_arrow a in cc); bare = λ a _. no_arrow a }
+      record { marks = h; wide = refl; inside = λ a. let n = no_arrow a in omega arith; bare = λ a _. no_arrow a }
 
   pub absent_good : Good letters states absent
   absent_good = plain_good 0 _ (omega arith)
 
 pub plain_entry :
-    (letters marks : ℕ) (prefix : Bool) → letters ≤ 32 → entry_in letters (record { marks = marks; prefix = prefix; arrows = replicate 32 None }) ≡ plain letters marks prefix
+    (letters marks : ℕ) (prefix : Bool) → letters ≤ 32 → entry_in letters (record { marks = marks; prefix = prefix; arrows = replicate 32 0 }) ≡ plain letters marks prefix
 plain_entry letters marks prefix h =
     ap (λ (xs : List ℕ). record { marks = marks; prefix = prefix; arrows = xs }) (take-replicate letters 32 0 h)
 
@@ -71,7 +58,7 @@ plain_entry letters marks prefix h =
 
 pub good_more : (letters m n : ℕ) (s : State) → m ≤ n → Good letters m s → Good letters n s
 good_more letters m n s h g =
-    record { marks = g.marks; wide = g.wide; inside = λ a q e. let i = g.inside a q e in (i.0, omega arith); bare = g.bare }
+    record { marks = g.marks; wide = g.wide; inside = λ a. let i = g.inside a in omega arith; bare = g.bare }
 
 pub good_push :
     (letters m n : ℕ) (xs : List State) (y : State) → m ≤ n → Each (Good letters m) xs → Good letters n y → Each (Good letters n) (xs ++ y ∷ [])
@@ -88,7 +75,7 @@ sheet_good sheet k =
 pub good_pushed :
     (b : Bool) (letters m n marks : ℕ) (prefix : Bool) (xs ys : List State)
     → marks < 2 ^ 32
-    → ys ≡ cond b (xs ++ record { marks = marks; prefix = prefix; arrows = replicate 32 None } ∷ []) xs
+    → ys ≡ cond b (xs ++ record { marks = marks; prefix = prefix; arrows = replicate 32 0 } ∷ []) xs
     → n ≡ cond b (m + 1) m
     → Each (Good letters m) xs
     → Each (Good letters n) ys
@@ -99,7 +86,7 @@ good_pushed false letters m n marks prefix xs ys h e f g = rw (e, f) g
 pub pushed_is :
     (letters shortest marks : ℕ) (prefix : Bool) (xs ys : List State)
     → letters ≤ 32
-    → ys ≡ xs ++ record { marks = marks; prefix = prefix; arrows = replicate 32 None } ∷ []
+    → ys ≡ xs ++ record { marks = marks; prefix = prefix; arrows = replicate 32 0 } ∷ []
     → ◌≡◌ {A = Table}
     (record { letters = letters; shortest = shortest; states = map (entry_in letters) ys })
     (grown (record { letters = letters; shortest = shortest; states = map (entry_in letters) xs }) marks prefix)
@@ -117,31 +104,27 @@ take_set_in (suc n) (x ∷ xs) zero v = refl
 take_set_in (suc n) (x ∷ xs) (suc a) v = ap (λ (ys : List ℕ). x ∷ ys) (take_set_in n xs a v)
 
 abbrev pub turned : State → ℕ → ℕ → State
-turned s a to = record { marks = s.marks; prefix = s.prefix; arrows = set s.arrows a (Some to) }
+turned s a to = record { marks = s.marks; prefix = s.prefix; arrows = set s.arrows a to }
 
-good_turned : (letters n : ℕ) (s : State) (a to : ℕ) → a < letters → letters ≤ 32 → 1 ≤ to → to ≤ n → Good letters n s → Good letters n (turned s a to)
-good_turned letters n s a to h l f t g =
+good_turned : (letters n : ℕ) (s : State) (a to : ℕ) → a < letters → letters ≤ 32 → to ≤ n → Good letters n s → Good letters n (turned s a to)
+good_turned letters n s a to h l t g =
     record {
       marks = g.marks;
-      wide = length-set s.arrows a (Some to) ∙ g.wide;
-      inside = λ b q k.
+      wide = length-set s.arrows a to ∙ g.wide;
+      inside = λ b.
           ⊎_elim
-          (λ (e : b ≡ a).
-          let w = g.wide in
-          let same : Some to ≡ Some q = rw (e, get_or-set_same s.arrows a (Some to) None (omega arith)) at k in
-          let is : to ≡ q = cc in
-          (omega arith, omega arith))
-          (λ (e : b ≡ a → ⊥). g.inside b q (sym (get_or-set_other s.arrows a b (Some to) None e) ∙ k))
+          (λ (e : b ≡ a). let w = g.wide in rw (e, get_or-set_same s.arrows a to 0 (omega arith)) t)
+          (λ (e : b ≡ a → ⊥). rw (get_or-set_other s.arrows a b to 0 e) (g.inside b))
           (cases_eq b a);
-      bare = λ b k. get_or-set_other s.arrows a b (Some to) None (λ e. omega arith) ∙ g.bare b k;
+      bare = λ b k. get_or-set_other s.arrows a b to 0 (λ e. omega arith) ∙ g.bare b k;
     }
 
 pub good_set :
     (letters n : ℕ) (xs : List State) (i : ℕ) (s : State) (a to : ℕ)
-    → i < length xs → s ≡ get_or xs i s → a < letters → letters ≤ 32 → 1 ≤ to → to ≤ n
+    → i < length xs → s ≡ get_or xs i s → a < letters → letters ≤ 32 → to ≤ n
     → Each (Good letters n) xs → Each (Good letters n) (set xs i (turned s a to))
-good_set letters n xs i s a to h e k l f t g =
-    each_set (Good letters n) (absent_good letters n) xs i (turned s a to) g (good_turned letters n s a to k l f t (subst (Good letters n) (sym (e ∙ get_or_default xs i s absent h)) (g i)))
+good_set letters n xs i s a to h e k l t g =
+    each_set (Good letters n) (absent_good letters n) xs i (turned s a to) g (good_turned letters n s a to k l t (subst (Good letters n) (sym (e ∙ get_or_default xs i s absent h)) (g i)))
 
 pub turned_is :
     (letters shortest from i : ℕ) (xs : List State) (s : State) (a to : ℕ)
@@ -153,7 +136,7 @@ turned_is letters shortest zero i xs s a to p h e = absurd (omega arith)
 turned_is letters shortest (suc j) i xs s a to p h e =
     let q : j ≡ i = omega arith in
     let there = get_or-map (entry_in letters) xs i s blank h ∙ ap (entry_in letters) (sym e) in
-    let new = ap (λ (ys : List ℕ). record { marks = s.marks; prefix = s.prefix; arrows = ys }) (ap (take letters) (map-set arrow_number s.arrows a (Some to)) ∙ take_set_in letters (map arrow_number s.arrows) a to) in
+    let new = ap (λ (ys : List ℕ). record { marks = s.marks; prefix = s.prefix; arrows = ys }) (take_set_in letters s.arrows a to) in
     rw q
     (ap
     (λ (es : List Entry). record { letters = letters; shortest = shortest; states = es })
@@ -178,10 +161,8 @@ lawful_entry letters states s h g =
     let w = g.wide in
     record {
       marks = g.marks;
-      arrows = length-take-le letters (map arrow_number s.arrows) (simp length-map (omega arith));
-      inside =
-          All-take (λ a. a ≤ states) letters (map arrow_number s.arrows)
-          (All-from_get_or (λ a. a ≤ states) (map arrow_number s.arrows) 0 (λ a _. number_inside states s g.inside a));
+      arrows = length-take-le letters s.arrows (omega arith);
+      inside = All-take (λ a. a ≤ states) letters s.arrows (All-from_get_or (λ a. a ≤ states) s.arrows 0 (λ a _. g.inside a));
     }
 
 pub sheet_lawful : (sheet : Sheet) → Lawful (table_of sheet)

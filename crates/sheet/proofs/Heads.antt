@@ -55,7 +55,7 @@ module _ (bytes : List ℕ) (head : Head) (rest : List ℕ) (b : Begins bytes he
 
 module _ (bytes : List ℕ) (head : Head) (rest : List ℕ) (a : Accepts bytes head rest) where
   -- a file about which all questions are answered by yes
-  accepts : Accepted bytes
+  pub accepts : Accepted bytes
   accepts =
       record {
         head = a.begins.whole;

@@ -1,44 +1,32 @@
 -- The state that a part of a file writes, as the code makes it.
-use Rattle.std.proofs.Common.{◌≡◌, ℕ, zero, suc, ◌+◌, ◌*◌, ◌^◌, ◌<◌, ◌≤◌, Bool, true, eqb, leb, List, [], ◌∷◌, ◌++◌, map, length, get_or, take, drop, Some, None, Option, sym, refl, ap, ◌∙◌, ⊎_elim, subst, suc-mul, zero-mul, arith}
+use Rattle.std.proofs.Common.{◌≡◌, ℕ, zero, suc, ◌+◌, ◌*◌, ◌^◌, ◌<◌, ◌≤◌, Bool, true, eqb, leb, List, [], ◌∷◌, ◌++◌, map, length, get_or, take, drop, sym, ap, ◌∙◌, ⊎_elim, subst, suc-mul, zero-mul, arith}
 use Rattle.std.proofs.ByRecursion.{All-get_or}
-use Rattle.std.proofs.lemmas.List.{append_assoc, map_push, ext_get_or, get_or-take, length-take, length-drop, length-map, length-append, take_at, drop_at}
+use Rattle.std.proofs.lemmas.List.{append_assoc, map_push, ext_get_or, get_or-take, length-take, length-drop, length-append, take_at, drop_at}
 use Rattle.std.proofs.lemmas.Bool.{and_parts, cases_lt}
 use Rattle.sheet.specs.declared.states.State.{State}
-use Rattle.sheet.specs.States.{arrow_number, Good}
-use Rattle.sheet.specs.Tables.{Entry, arrow_of, most_letters}
+use Rattle.sheet.specs.States.{Good}
+use Rattle.sheet.specs.Tables.{Entry, most_letters}
 use Rattle.sheet.specs.Files.{entry_size, cut, up_to, sound_entry, entry_of}
 use Rattle.sheet.specs.Views.{entry_in}
 use Rattle.sheet.proofs.Files.{decides_up_to}
-use Rattle.sheet.proofs.Goods.{number_at}
 
 -- arrows with room for all letters, read from the bytes of those that there are
-pub record Arrows (bytes : List ℕ) (arrows : List (Option ℕ)) : Type 0 where
+pub record Arrows (bytes arrows : List ℕ) : Type 0 where
   pub wide : length arrows ≡ most_letters
-  pub there : (a : ℕ) → a < length bytes → get_or arrows a None ≡ arrow_of (get_or bytes a 0)
-  pub bare : (a : ℕ) → length bytes ≤ a → get_or arrows a None ≡ None
+  pub there : (a : ℕ) → a < length bytes → get_or arrows a 0 ≡ get_or bytes a 0
+  pub bare : (a : ℕ) → length bytes ≤ a → get_or arrows a 0 ≡ 0
 
--- the number of a byte's arrow is the byte
-number_back : (b : ℕ) → arrow_number (arrow_of b) ≡ b
-number_back zero = refl
-number_back (suc b) = refl
-
--- where a byte writes an arrow, it leads to the state of that number
-leads : (n b q : ℕ) → b ≤ n → arrow_of b ≡ Some q → (1 ≤ q) × (q ≤ n)
-leads n zero q h e = absurd (cc)
-leads n (suc b) q h e = let x : suc b ≡ q = cc in (omega arith, omega arith)
-
-module _ (letters : ℕ) (part : List ℕ) (long : length part ≡ entry_size letters) (few : letters ≤ most_letters) (arrows : List (Option ℕ)) (read : Arrows (drop 5 part) arrows) where
+module _ (letters : ℕ) (part : List ℕ) (long : length part ≡ entry_size letters) (few : letters ≤ most_letters) (arrows : List ℕ) (read : Arrows (drop 5 part) arrows) where
   count : length (drop 5 part) ≡ letters
   count = simp length-drop (omega arith)
 
-  front_arrows : take letters (map arrow_number arrows) ≡ drop 5 part
+  front_arrows : take letters arrows ≡ drop 5 part
   front_arrows =
       let w = read.wide in
       let n = count in
-      let m : length (take letters (map arrow_number arrows)) ≡ letters = simp (length-take, length-map) (omega arith) in
-      ext_get_or 0 (take letters (map arrow_number arrows)) (drop 5 part) (m ∙ sym n)
-      (λ i h.
-      get_or-take letters (map arrow_number arrows) i 0 (omega arith) ∙ number_at arrows i ∙ ap arrow_number (read.there i (omega arith)) ∙ number_back (get_or (drop 5 part) i 0))
+      let m : length (take letters arrows) ≡ letters = simp length-take (omega arith) in
+      ext_get_or 0 (take letters arrows) (drop 5 part) (m ∙ sym n)
+      (λ i h. get_or-take letters arrows i 0 (omega arith) ∙ read.there i (omega arith))
 
   pub state_entry :
       (front : List ℕ) (marks : ℕ) → front ≡ take 5 part → marks ≡ get_or front 0 0 * 16777216 + get_or front 1 0 * 65536 + get_or front 2 0 * 256 + get_or front 3 0
@@ -60,11 +48,13 @@ module _ (letters : ℕ) (part : List ℕ) (long : length part ≡ entry_size le
       record {
         marks = h;
         wide = read.wide;
-        inside = λ a q k.
+        inside = λ a.
             ⊎_elim
             (λ (l : a < length (drop 5 part)).
-            leads states (get_or (drop 5 part) a 0) q (All-get_or (λ b. b ≤ states) (drop 5 part) a 0 l inside) (sym (read.there a l) ∙ k))
-            (λ (l : length (drop 5 part) ≤ a). absurd (let e = read.bare a l in cc))
+            let e = read.there a l in
+            let i = All-get_or (λ b. b ≤ states) (drop 5 part) a 0 l inside in
+            omega arith)
+            (λ (l : length (drop 5 part) ≤ a). let e = read.bare a l in omega arith)
             (cases_lt a (length (drop 5 part)));
         bare = λ a l. read.bare a (omega arith);
       }

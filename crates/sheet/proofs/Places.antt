@@ -19,7 +19,6 @@ module _ (sheet : Sheet) (from a to : ℕ) where
   pub record Exist : Type 0 where
     pub some : 1 ≤ from
     pub from_in : from ≤ vec_len sheet.states
-    pub to_some : 1 ≤ to
     pub to_in : to ≤ vec_len sheet.states
     pub letter_in_lem : a < sheet.letters
 
@@ -33,7 +32,6 @@ module _ (sheet : Sheet) (from a to : ℕ) where
       record {
         some = leb-true 1 from f.0;
         from_in = leb-true from n f.1;
-        to_some = leb-true 1 to t.0;
         to_in = leb-true to n t.1;
         letter_in_lem = ltb-true a sheet.letters q.1;
       }

@@ -5,9 +5,9 @@ use lib.Seq.{paste}
 use borrow.Rule.Slice.PartMut.{put_mid}
 use Rattle.std.specs.List.{flat_map}
 use Rattle.std.proofs.lemmas.List.Edits.{paste-paste, paste_all}
-use Rattle.std.proofs.lemmas.List.{take_all, take_at, length-take-le, take_more, map_push, flat_map_more, get_or_default, length-append, length-map, append-nil, drop_all, drop-drop}
+use Rattle.std.proofs.lemmas.List.{take_all, take_at, length-take-le, take_more, map_push, flat_map_more, get_or_default, length-append, append-nil, drop_all, drop-drop}
 use Rattle.sheet.specs.declared.states.State.{State}
-use Rattle.sheet.specs.States.{arrow_number, absent, Each, IsWide, Good}
+use Rattle.sheet.specs.States.{absent, Each, IsWide, Good}
 use Rattle.sheet.specs.Tables.{Table, Lawful, most_letters}
 use Rattle.sheet.specs.Files.{four_bytes, entry_bytes, entry_size, file_of, read_file, written, overwritten}
 use Rattle.sheet.specs.Views.{entry_in, table_of}
@@ -23,16 +23,6 @@ byte_of true = refl
 byte_of false = refl
 
 -- ---- one state
-
-set_front : (xs d : List ℕ) (a : ℕ) → a < length xs → a < length d → set (take a xs ++ drop a d) a (get_or xs a 0) ≡ take (suc a) xs ++ drop (suc a) d
-set_front [] d a h g = absurd (omega arith)
-set_front (x ∷ xs) [] a h g = absurd (omega arith)
-set_front (x ∷ xs) (y ∷ d) zero h g = refl
-set_front (x ∷ xs) (y ∷ d) (suc a) h g = ap (λ (zs : List ℕ). x ∷ zs) (set_front xs d a (omega arith) (omega arith))
-
--- one arrow more is written
-pub arrow_written : (xs d : List ℕ) (a x : ℕ) → a < length xs → a < length d → x ≡ get_or xs a 0 → set (take a xs ++ drop a d) a x ≡ take (a + 1) xs ++ drop (a + 1) d
-arrow_written xs d a x h g e = rw (e, add-one a) (set_front xs d a h g)
 
 -- the marks, the prefix mark and the arrows, one after the other, are the state
 pub state_written :
@@ -63,7 +53,7 @@ module _ (letters : ℕ) (items : List State) where
 
   module _ (wide : Each IsWide items) (few : letters ≤ most_letters) where
     pub length_one : (s : State) → IsWide s → length (entry_bytes (entry_in letters s)) ≡ entry_size letters
-    length_one s w = let e : length (take letters (map arrow_number s.arrows)) ≡ letters = length-take-le letters (map arrow_number s.arrows) (simp length-map (omega arith)) in omega arith
+    length_one s w = let e : length (take letters s.arrows) ≡ letters = length-take-le letters s.arrows (omega arith) in omega arith
 
     pub length_front : (i : ℕ) → i ≤ length items → length (front i) ≡ i * entry_size letters
     length_front zero h = sym (zero-mul (entry_size letters))

@@ -9,11 +9,10 @@ use Rattle.sheet.specs.declared.refusals.GrowthError.{GrowthError}
 use Rattle.sheet.specs.declared.refusals.GrowthError.TheVariants.{Full}
 use Rattle.sheet.specs.declared.refusals.GrowthError.TheVariants.{NoMemory as NoRoom}
 use Rattle.automaton.specs.Automata.{Automaton}
-use Rattle.sheet.specs.States.{arrow_number}
 use Rattle.sheet.specs.Tables.{Entry, Table, arrow_from, marks_at, prefix_at, grown, most_states}
 
 abbrev pub entry_in : ℕ → State → Entry
-entry_in letters s = record { marks = s.marks; prefix = s.prefix; arrows = take letters (map arrow_number s.arrows) }
+entry_in letters s = record { marks = s.marks; prefix = s.prefix; arrows = take letters s.arrows }
 
 abbrev pub table_of : Sheet → Table
 table_of sheet =

@@ -1,9 +1,17 @@
 //! What a sheet answers about its states.
 ghost use Rattle.std.specs.Prelude.{◌≡◌, length, option_copied};
+ghost use Rattle.sheet.specs.Tables.{arrow_of};
 ghost use Rattle.sheet.specs.Views.{table_of, state_at, automaton_of};
 
-use crate::states::State;
+use crate::states::{ArrowNumber, State};
 use crate::{Sheet, StateNumber};
+
+/// The arrow that a number stands for; 0 is none.
+fn arrow_in(number: ArrowNumber) -> Option<ArrowNumber>
+    ensures { result ≡ arrow_of number }
+{
+    (number != 0).then_some(number)
+}
 
 impl Sheet {
     /// The number of letters.
@@ -41,7 +49,7 @@ impl Sheet {
     pub fn follow(&self, state: StateNumber, letter: u8) -> Option<StateNumber>
         ensures answer { result ≡ (automaton_of self.now).arrow state letter }
     {
-        *self.state(state)?.arrows.get(letter as usize)?
+        arrow_in(*self.state(state)?.arrows.get(letter as usize)?).map(StateNumber::from)
     }
 
     /// The marks of a state, none where it does not exist.

@@ -1,22 +1,22 @@
 //! Sheets are made state by state and arrow by arrow.
-ghost use Rattle.std.specs.Prelude.{◌≡◌, replicate, if◌then◌else◌, None, Ok};
+ghost use Rattle.std.specs.Prelude.{◌≡◌, replicate, if◌then◌else◌, Ok};
 ghost use Rattle.sheet.specs.Views.{table_of, Gives, Grows};
 ghost use Rattle.sheet.specs.Tables.{single as single_table, has_state, has_places, redirected, most_letters};
 ghost use Rattle.sheet.specs.Files.{ask, is_counted};
 ghost use Rattle.sheet.specs.declared.refusals.SheetRefusal.TheVariants.{Counts};
 
-use crate::states::State;
+use crate::states::{ArrowNumber, State};
 use crate::{GrowthError, MOST_LETTERS, MOST_STATES, Sheet, SheetError, SheetRefusal, StateNumber};
 use std::alloc::Global;
 
 /// A state without arrows.
 fn plain(marks: u32, prefix: bool) -> State
-    ensures answer { result ≡ record { marks = marks; prefix = prefix; arrows = replicate most_letters None } }
+    ensures answer { result ≡ record { marks = marks; prefix = prefix; arrows = replicate most_letters 0 } }
 {
     State {
         marks,
         prefix,
-        arrows: [None; MOST_LETTERS],
+        arrows: [0; MOST_LETTERS],
     }
 }
 
@@ -71,7 +71,7 @@ impl Sheet {
         if !self.has_places(from, letter, to) {
             return false;
         }
-        self.states[from as usize - 1].arrows[letter as usize] = Some(to);
+        self.states[from as usize - 1].arrows[letter as usize] = to as ArrowNumber;
         true
     }
 }

@@ -1,14 +1,14 @@
 //! Sheets from files.
-ghost use Rattle.std.specs.Prelude.{◌≡◌, ℕ, ◌+◌, ◌*◌, ◌<◌, ◌≤◌, true, map, length, IfOk, Err, MatchResult, None, slice_index, slice_index_or};
-ghost use Rattle.sheet.specs.Tables.{most_letters, arrow_of};
+ghost use Rattle.std.specs.Prelude.{◌≡◌, ℕ, ◌*◌, ◌<◌, ◌≤◌, true, map, length, IfOk, Err, MatchResult, slice_index};
+ghost use Rattle.sheet.specs.Tables.{most_letters};
 ghost use Rattle.sheet.specs.States.{Each, Good};
 ghost use Rattle.sheet.specs.Heads.{Begins, Accepts};
 ghost use Rattle.sheet.specs.Files.{entry_size, cut, up_to, sound_entry, sound as sound_parts, entry_of, read_file, file_of, ReadingInvertsWriting};
 ghost use Rattle.sheet.specs.Views.{table_of, entry_in, Gives};
 
 use crate::layout::{BEFORE_ARROWS, EDITION, Head, entry_size};
-use crate::states::State;
-use crate::{MOST_LETTERS, Sheet, SheetError, SheetRefusal, StateNumber};
+use crate::states::{ArrowNumber, State};
+use crate::{MOST_LETTERS, Sheet, SheetError, SheetRefusal};
 use std::alloc::{AllocError, Global};
 
 /// Whether no byte is above the bound.
@@ -18,24 +18,17 @@ fn up_to(most: u8, bytes: &[u8]) -> bool
     bytes.iter().all(|b| *b <= most)
 }
 
-/// The arrow that a byte writes; 0 is none.
-fn arrow_in(byte: u8) -> Option<StateNumber>
-    ensures { result ≡ arrow_of byte }
-{
-    (byte != 0).then_some(StateNumber::from(byte))
-}
-
 /// The arrows of a state, and none by the letters that there are not.
-fn arrows_of(bytes: &[u8]) -> [Option<StateNumber>; MOST_LETTERS]
+fn arrows_of(bytes: &[u8]) -> [ArrowNumber; MOST_LETTERS]
     requires { length bytes.now ≤ most_letters }
     ensures wide { length result ≡ most_letters }
-    ensures answer { (a : ℕ) → a < length bytes.now → slice_index_or result a None ≡ arrow_of (slice_index bytes.now a) }
-    ensures bare { (a : ℕ) → length bytes.now ≤ a → slice_index_or result a None ≡ None }
+    ensures answer { (a : ℕ) → a < length bytes.now → slice_index result a ≡ slice_index bytes.now a }
+    ensures bare { (a : ℕ) → length bytes.now ≤ a → slice_index result a ≡ 0 }
 {
-    let mut arrows = [None; MOST_LETTERS];
+    let mut arrows = [0; MOST_LETTERS];
     // By number: after `iter_mut` under `zip` a proof knows how many arrows there are, and no longer which.
     for (a, byte) in bytes.iter().enumerate() {
-        arrows[a] = arrow_in(*byte);
+        arrows[a] = *byte;
     }
     arrows
 }

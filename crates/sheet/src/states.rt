@@ -3,6 +3,10 @@
 /// The number of a state, from 1 on.
 pub type StateNumber = u16;
 
+/// The number of a state as a state's arrow holds it: the states are few enough for a byte. 0 is no arrow, as in a file.
+// An `Option` has a byte of its own beside the number: of 16 bits a sheet took twice the memory, of 8 half again the time to write.
+pub(crate) type ArrowNumber = u8;
+
 /// The number of the state in which every reading starts.
 pub const START: StateNumber = 1;
 
@@ -20,6 +24,6 @@ pub(crate) struct State {
     pub marks: u32,
     /// Whether the words that lead here are proper prefixes of images.
     pub prefix: bool,
-    /// The state that each letter leads to, if there is an arrow.
-    pub arrows: [Option<StateNumber>; MOST_LETTERS],
+    /// The state that each letter leads to; 0 is none.
+    pub arrows: [ArrowNumber; MOST_LETTERS],
 }

@@ -5,7 +5,6 @@ use Rattle.std.proofs.lemmas.Slice.{put_mid-paste}
 use Rattle.sheet.specs.declared.states.State.{State}
 use Rattle.sheet.specs.Files.{entry_size, entry_bytes}
 use Rattle.sheet.specs.Views.{entry_in}
-use Rattle.sheet.proofs.Goods.{number_most}
 use Rattle.sheet.proofs.Writes.{length_one, state_there, written_more, states_written}
 use Rattle.sheet.proofs.Sheet.put_states.Goals as goal
 
@@ -30,11 +29,9 @@ put_state-requires c =
     let g = state_there sheet c.deref-state-items.result.now i unread c.deref-state-items.ensures.value c.loop-i-test.true in
     let w = g.wide in
     let few = sheet.few in
-    let most = sheet.counted in
     record {
       long = simp (length-take, length-drop) (omega (arith, c.requires.long, c.loop-i.auto.body));
       wide = omega arith;
-      small = λ a. let s = number_most (vec_len sheet.states) _ (g.inside a) in omega arith;
     }
 
 pub loop-i-preserved : goal.loop-i-preserved

@@ -13,7 +13,6 @@ invariant_of-self c =
     c.index_mut.ensures.value
     e.letter_in_lem
     sheet.few
-    e.to_some
     e.to_in
     (sheet_good sheet)
     in

@@ -1,6 +1,5 @@
-use Rattle.std.proofs.Common.{◌≡◌, ℕ, cond, List, ◌∷◌, ◌++◌, length, map, take, ap, ◌∙◌, arith}
-use Rattle.std.proofs.lemmas.List.{length-append, length-drop, length-take, length-set}
-use Rattle.sheet.specs.States.{arrow_number}
+use Rattle.std.proofs.Common.{◌≡◌, ℕ, cond, List, ◌∷◌, ◌++◌, length, ap, ◌∙◌, arith}
+use Rattle.std.proofs.lemmas.List.{length-append, length-drop, length-set}
 use Rattle.sheet.specs.Files.{four_bytes}
 use Rattle.sheet.proofs.Writes.{byte_of, state_written}
 use Rattle.sheet.proofs.writing.put_state.Goals as goal
@@ -13,12 +12,11 @@ returns c =
     let long = c.requires.long in
     record {
       after =
-          state_written c.copy_from_slice.new.self c.args.part.now c.put_arrows.new.bytes s.marks c.from.result (cond s.prefix 1 0) _
+          state_written c.copy_from_slice.new.self c.args.part.now c.copy_from_slice-2.new.self s.marks c.from.result (cond s.prefix 1 0) _
           front
           (c.from.ensures ∙ byte_of s.prefix)
           (omega arith)
           (simp (length-set, length-append, length-drop) (omega arith))
           ∙ ap (λ (ys : List ℕ). four_bytes s.marks ++ cond s.prefix 1 0 ∷ ys)
-          (c.put_arrows.ensures.after
-          ∙ ap (λ (n : ℕ). take n (map arrow_number s.arrows)) (simp (length-take, length-drop, length-set, length-append) (omega arith)));
+          c.copy_from_slice-2.ensures.after;
     }
